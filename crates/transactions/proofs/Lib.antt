@@ -1,0 +1,5 @@
+pub mod Anys
+pub mod Places
+pub mod Arrays
+pub mod Writes
+pub mod Ranges
