@@ -1,0 +1,9 @@
+mod Walks
+mod Sums
+mod Places
+mod Stacks
+mod Copies
+mod Searches
+mod Named
+pub mod Moments
+pub mod Newest

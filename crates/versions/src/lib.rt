@@ -1,0 +1,11 @@
+// The versions of all keys, latest first, in lent slices of words linked by place.
+mod chains;
+mod laws;
+mod spare;
+mod store;
+mod words;
+mod writes;
+
+pub use laws::laws_stand;
+pub use store::Versions;
+pub use words::Words;
