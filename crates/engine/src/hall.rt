@@ -1,0 +1,24 @@
+// The store as it answers a conversation.
+use conversation::Service;
+use model::Answer;
+use model::Request;
+use std::alloc::Global;
+use std::error::AnyError;
+use store::Store;
+
+#[derive(Drop)]
+pub struct Hall<'h, 's, 'a> {
+    pub heap: Global,
+    pub store: &'h mut Store<'s, 'a>,
+}
+
+pub impl Service for Hall<'_, '_, '_> as HallService {
+    fn answer(&mut self, request: Request) -> Answer {
+        self.store.answer(self.heap, request)
+    }
+
+    // Nothing is kept outside the memory yet.
+    fn settle(&mut self) -> Result<(), AnyError> {
+        Ok(())
+    }
+}

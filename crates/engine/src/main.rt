@@ -1,0 +1,45 @@
+// The program: lines on standard input, answers on standard output.
+mod hall;
+
+use conversation::converse;
+use hall::Hall;
+use hall::HallService;
+use std::env;
+use std::error::AnyError;
+use store::Room;
+use store::Store;
+use versions::Versions;
+use versions::Words;
+
+fn main(rt: LibcRuntime) -> Result<(), AnyError> {
+    rt.report(run(&rt))
+}
+
+fn run(rt: &LibcRuntime) -> Result<(), AnyError> {
+    if env::args(rt)?.nth(1).is_none() {
+        return Err("usage: engine FILE".into());
+    }
+    let heap = rt.alloc();
+    let mut room = Room::new(heap)?;
+    let words = Words {
+        heads: room.first.heads.as_mut_slice(),
+        next: room.first.next.as_mut_slice(),
+        number: room.first.number.as_mut_slice(),
+        value: room.first.value.as_mut_slice(),
+    };
+    let spare = Words {
+        heads: room.second.heads.as_mut_slice(),
+        next: room.second.next.as_mut_slice(),
+        number: room.second.number.as_mut_slice(),
+        value: room.second.value.as_mut_slice(),
+    };
+    let mut versions = Versions::new(words, spare, room.stack.as_mut_slice());
+    let mut store = Store::new(heap, &mut versions);
+    serve(rt, &mut store)
+}
+
+fn serve(rt: &LibcRuntime, store: &mut Store) -> Result<(), AnyError> {
+    let heap = rt.alloc();
+    let mut hall = Hall { heap, store };
+    converse(heap, &mut hall, &mut rt.stdin(), &mut rt.stdout())
+}

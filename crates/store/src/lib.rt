@@ -1,0 +1,8 @@
+// The engine: sixteen slots over the versions and the check at commit.
+mod calls;
+mod room;
+mod state;
+
+pub use room::Room;
+pub use room::Set;
+pub use state::Store;

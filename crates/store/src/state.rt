@@ -1,0 +1,15 @@
+// The state of the engine.
+ghost use mathlib.Core.Path.{_≡_};
+ghost use lib.ListN.{length};
+use conflicts::committed::Window;
+use transactions::slot::Slot;
+use versions::Versions;
+
+#[derive(Drop)]
+pub struct Store<'s, 'a> {
+    pub versions: &'s mut Versions<'a>,
+    pub window: Window,
+    pub slots: [Slot; 16],
+    pub commits: u32,
+    ghost all: { length slots ≡ 16 },
+}
