@@ -431,7 +431,7 @@ impl Reference {
 
     // Versions, sweeping, and the calls without a slot.
 
-    fn versions_held(&self) -> usize {
+    pub fn versions_held(&self) -> usize {
         self.versions.iter().flatten().filter(|version| !version.swept).count()
     }
 
