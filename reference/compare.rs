@@ -572,9 +572,16 @@ impl Bug {
     }
 }
 
-/// Plants each bug, and shows that the random scripts find it.
+/// Plants each bug, and shows that the random scripts find it. First it shows that they find none
+/// where none was planted.
 fn selftest(options: &Options) -> Result<bool, String> {
+    let plain = Options { scripts: options.scripts.min(200), pass: None, mode: Mode::File, ..options.clone() };
+    let pair = Match::new(&plain, options.root.join("target/reference/reference"));
+    if let Some(found) = pair.seeds(&plain, &Mutex::default()).map_err(|problem| problem.to_string())? {
+        return Err(format!("the reference differs from itself at seed {}: {}", found.seed, found.what));
+    }
     let mut all_found = true;
+    let mut count = 0;
     let paths = with_ending(&options.root.join("reference/bugs"), "edit").map_err(|problem| problem.to_string())?;
     for path in paths {
         let bug = Bug::read(&path).map_err(|problem| problem.to_string())?;
@@ -593,8 +600,10 @@ fn selftest(options: &Options) -> Result<bool, String> {
                 all_found = false;
             }
         }
+        count += 1;
         let _ = io::stdout().flush();
     }
+    println!("{count} planted bugs, {}", if all_found { "all found" } else { "not all found" });
     Ok(all_found)
 }
 

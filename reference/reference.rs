@@ -582,9 +582,7 @@ fn serve(reference: &mut Reference) -> io::Result<()> {
     let mut held = Vec::new();
     let mut bytes = vec![0; 1 << 16];
     loop {
-        io::stdout().write_all(answers.as_bytes())?;
-        io::stdout().flush()?;
-        answers.clear();
+        send(&mut answers)?;
         let count = io::stdin().read(&mut bytes)?;
         if count == 0 {
             break;
@@ -593,8 +591,7 @@ fn serve(reference: &mut Reference) -> io::Result<()> {
             if byte != b'\n' {
                 held.push(byte);
             } else if let Err(problem) = say(reference.line(&std::mem::take(&mut held)), &mut answers) {
-                io::stdout().write_all(answers.as_bytes())?;
-                return Err(problem);
+                return send(&mut answers).and(Err(problem));
             }
         }
     }
@@ -602,7 +599,12 @@ fn serve(reference: &mut Reference) -> io::Result<()> {
         say(reference.line(&held), &mut answers)?;
     }
     say(Ok(reference.last_line()), &mut answers)?;
+    send(&mut answers)
+}
+
+fn send(answers: &mut String) -> io::Result<()> {
     io::stdout().write_all(answers.as_bytes())?;
+    answers.clear();
     io::stdout().flush()
 }
 

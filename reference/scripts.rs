@@ -460,7 +460,7 @@ impl Maker {
         let mix = Mix { acts: [50, 50, 2, 0, 1, 0, 0, 1, 2], begins: 2, slots: 4, ..self.mix() };
         for round in 0..4 {
             let slot = round % 3;
-            self.say(format!("abort {slot}"));
+            self.clear(slot);
             self.begin(&mix, slot);
             let (reads, writes) = (self.random.between(62, 67), self.random.between(62, 67));
             let wide = self.random.below(3);
@@ -528,13 +528,30 @@ impl Maker {
         self.lines(&mix, 100);
     }
 
+    /// Aborts what is under way in a slot.
+    fn clear(&mut self, slot: u64) {
+        if self.oracle.slots[slot as usize].is_some() {
+            self.say(format!("abort {slot}"));
+        }
+    }
+
     /// Commits writes of so many keys in a row.
     fn fill(&mut self, slot: u64, first: u64, count: u64) {
         let mix = Mix { levels: [2, 1, 1], ..self.mix() };
-        self.say(format!("abort {slot}"));
+        self.clear(slot);
         self.begin(&mix, slot);
         for key in first..first + count {
             self.say(format!("write {slot} {} {}", key % 4096, key));
+        }
+        self.say(format!("commit {slot}"));
+    }
+
+    /// Commits writes of so many keys in a row, and some of these keys twice.
+    fn fill_twice(&mut self, slot: u64, first: u64, count: u64) {
+        let mix = self.mix();
+        self.begin(&mix, slot);
+        for number in 0..64.min(count * 2) {
+            self.say(format!("write {slot} {} {number}", (first + number % count) % 4096));
         }
         self.say(format!("commit {slot}"));
     }
@@ -549,7 +566,7 @@ impl Maker {
         let level = if self.mode == Mode::Lineup { "serial" } else { "snapshot" };
         self.say(format!("begin 3 {level}"));
         self.say(format!("write 3 {first} 1"));
-        self.fill(4, first, room);
+        self.fill_twice(4, first, room);
         self.send(b"show");
         self.send(b"commit 3");
         self.fill(5, first, 0);
@@ -774,6 +791,10 @@ impl Maker {
     fn damaged(&mut self, bytes: &[u8]) -> Vec<u8> {
         let starts = record_starts(bytes);
         let mut bytes = bytes.to_vec();
+        if self.random.percent(10) {
+            bytes.extend(self.crowded(starts.len() as u64));
+            return bytes;
+        }
         for _ in 0..self.random.between(1, 2) {
             let start = if self.random.percent(50) { *self.random.pick(&starts) } else { *starts.last().unwrap_or(&0) };
             let at = match self.random.below(4) {
@@ -790,6 +811,11 @@ impl Maker {
                     _ => self.random.next() as u8,
                 };
             }
+        }
+        if self.random.percent(15) {
+            let at = *self.random.pick(&starts) + 6;
+            let key: [u8; 2] = *self.random.pick(&[[15, 255], [16, 0], [16, 1], [0, 16], [255, 255]]);
+            bytes.get_mut(at..at + 2).map(|place| place.copy_from_slice(&key));
         }
         match self.random.below(8) {
             0 => bytes.truncate(self.random.below(bytes.len() as u64 + 1) as usize),
