@@ -561,7 +561,8 @@ impl Bug {
         fs::write(&source, text.replace(&self.old, &self.new)).map_err(problem)?;
         let rustc = std::env::var("RUSTC").unwrap_or("rustc".into());
         let built = Command::new(rustc)
-            .args(["-O", "--edition", "2021", "--cap-lints", "allow", "--crate-name", "planted", "-o"])
+            .args(["-C", "debug-assertions=off", "--edition", "2021", "--cap-lints", "allow"])
+            .args(["--crate-name", "planted", "-o"])
             .args([&binary, &source])
             .output()
             .map_err(problem)?;
@@ -610,9 +611,7 @@ fn selftest(options: &Options) -> Result<bool, String> {
 fn compare(options: &Options) -> Result<bool, String> {
     let usual = if options.mode == Mode::Lineup { "target/bin/lineup" } else { "target/bin/engine" };
     let engine = options.engine.clone().unwrap_or(options.root.join(usual));
-    if !engine.is_file() {
-        return Err(format!("there is no program {}", engine.display()));
-    }
+    let engine = fs::canonicalize(&engine).map_err(|_| format!("there is no program {}", engine.display()))?;
     let start = Instant::now();
     let pair = Match::new(options, engine);
     let (count, wrong) = written_cases(&pair).map_err(|problem| problem.to_string())?;

@@ -72,6 +72,7 @@ pub enum Kind {
     Mixed,
     Serial,
     Contention,
+    Old,
     Keys,
     Ranges,
     Limits,
@@ -100,7 +101,7 @@ const TURNS: [Kind; 24] = [
     Kind::Versions,
     Kind::Cuts,
     Kind::Damage,
-    Kind::Mixed,
+    Kind::Old,
     Kind::Serial,
     Kind::Contention,
     Kind::Ranges,
@@ -126,6 +127,7 @@ pub fn cases(seed: u64, mode: Mode, scratch: &Path) -> std::io::Result<Vec<Case>
         Kind::Mixed => maker.mixed(),
         Kind::Serial => maker.serial(),
         Kind::Contention => maker.contention(),
+        Kind::Old => maker.old(),
         Kind::Keys => maker.keys(),
         Kind::Ranges => maker.ranges(),
         Kind::Limits => maker.limits(),
@@ -137,6 +139,9 @@ pub fn cases(seed: u64, mode: Mode, scratch: &Path) -> std::io::Result<Vec<Case>
         Kind::Damage => return Ok(maker.damage(scratch)),
     }
     maker.finish();
+    if kind(seed, mode) == Kind::Hostile {
+        maker.tail();
+    }
     Ok(vec![maker.case()])
 }
 
@@ -210,7 +215,7 @@ impl Maker {
     fn case(&mut self) -> Case {
         let pieces = self.random.percent(50).then(|| self.random.next());
         let mut input = std::mem::take(&mut self.input);
-        if self.random.percent(30) {
+        if input.ends_with(b"\n") && self.random.percent(30) {
             input.pop();
         }
         Case { input, pieces, ..Case::default() }
@@ -407,16 +412,76 @@ impl Maker {
 
     fn contention(&mut self) {
         let count = self.random.between(2, 6);
-        let levels = *self.random.pick(&[[1, 1, 1], [0, 1, 0], [0, 1, 2], [1, 4, 6]]);
+        let levels = *self.random.pick(&[[1, 1, 1], [0, 1, 0], [0, 0, 1], [0, 1, 4], [1, 4, 16]]);
+        let writes = *self.random.pick(&[8, 12, 20]);
         let mix = Mix {
             keys: self.neighbours(count),
             levels,
             begins: 35,
-            acts: [30, 20, 28, 2, 1, 0, 0, 1, 0],
+            acts: [30, writes, 20, 2, 1, 0, 0, 1, 0],
             spans: [60, 15, 20, 3, 2],
             ..self.mix()
         };
         self.lines(&mix, 500);
+    }
+
+    /// Some transactions stay under way while many others commit. The keys of the others change from
+    /// round to round, so that only the commits of long ago have to do with the old transactions.
+    fn old(&mut self) {
+        let count = self.random.between(8, 30);
+        for round in 0..8 {
+            let mix = Mix {
+                slots: 11,
+                keys: (round * 100..round * 100 + count).collect(),
+                levels: [1, 2, 6],
+                acts: [26, 24, 30, 2, 1, 0, 0, 1, 0],
+                spans: [70, 20, 10, 0, 0],
+                ..self.mix()
+            };
+            for slot in 12..16 {
+                self.old_begins(&mix, slot);
+            }
+            self.lines(&mix, 60);
+            self.witness(&mix);
+            self.lines(&mix, 140);
+            if round % 2 == 1 {
+                let slot = self.slot_between(12, 15);
+                let earlier = self.random.below(round + 1) * 100 + self.random.below(count);
+                let key = if self.random.percent(65) { 2000 + slot } else { earlier };
+                self.say(format!("write {slot} {key} {round}"));
+                self.commit(slot);
+            }
+        }
+    }
+
+    fn old_begins(&mut self, mix: &Mix, slot: u64) {
+        if self.oracle.slots[slot as usize].is_none() && self.random.percent(50) {
+            let level = if self.mode == Mode::Lineup { 2 } else { self.random.weighed(&[0, 1, 4]) };
+            self.say(format!("begin {slot} {}", LEVELS[level]));
+        }
+        if self.oracle.slots[slot as usize].is_some() && self.random.percent(50) {
+            let (from, to) = self.range(mix);
+            self.say(format!("read {slot} {from} {to}"));
+        }
+    }
+
+    /// A busy slot of some, if there is one.
+    fn slot_between(&mut self, low: u64, high: u64) -> u64 {
+        let busy: Vec<u64> = self.slots(true, high + 1).into_iter().filter(|&slot| slot >= low).collect();
+        if busy.is_empty() { low } else { *self.random.pick(&busy) }
+    }
+
+    /// Looks at keys that the old transactions are going to write.
+    fn witness(&mut self, mix: &Mix) {
+        if self.random.percent(50) {
+            self.clear(11);
+            self.send(b"begin 11 serial");
+            let from = self.random.between(2012, 2015);
+            self.say(format!("read 11 {from} 2016"));
+            let key = *self.random.pick(&mix.keys);
+            self.say(format!("write 11 {key} 5"));
+            self.commit(11);
+        }
     }
 
     fn keys(&mut self) {
@@ -496,7 +561,7 @@ impl Maker {
 
     /// Fills the room for versions, and sweeps with and without somebody under way.
     fn versions(&mut self) {
-        let held = self.random.between(0, 2);
+        let held = self.random.below(3);
         let mut first = self.random.below(4096);
         let step = *self.random.pick(&[64, 64, 61, 1, 3]);
         let mut steps = 0;
@@ -510,7 +575,8 @@ impl Maker {
                 self.send(b"sweep");
                 self.send(b"show");
             }
-            self.fill(0, first, 64);
+            let count = self.random.between(60, 64);
+            self.fill(0, first, count);
             first = (first + step) % 4096;
             steps += 1;
         }
@@ -537,21 +603,22 @@ impl Maker {
 
     /// Commits writes of so many keys in a row.
     fn fill(&mut self, slot: u64, first: u64, count: u64) {
-        let mix = Mix { levels: [2, 1, 1], ..self.mix() };
-        self.clear(slot);
-        self.begin(&mix, slot);
-        for key in first..first + count {
-            self.say(format!("write {slot} {} {}", key % 4096, key));
-        }
-        self.say(format!("commit {slot}"));
+        self.write_keys(slot, (first..first + count).collect());
     }
 
     /// Commits writes of so many keys in a row, and some of these keys twice.
     fn fill_twice(&mut self, slot: u64, first: u64, count: u64) {
-        let mix = self.mix();
-        self.begin(&mix, slot);
-        for number in 0..64.min(count * 2) {
-            self.say(format!("write {slot} {} {number}", (first + number % count) % 4096));
+        let twice = (0..64.min(count * 2)).map(|number| first + number % count);
+        self.write_keys(slot, twice.collect());
+    }
+
+    fn write_keys(&mut self, slot: u64, keys: Vec<u64>) {
+        self.clear(slot);
+        let level = if self.mode == Mode::Lineup { 2 } else { self.random.weighed(&[2, 1, 1]) };
+        self.say(format!("begin {slot} {}", LEVELS[level]));
+        for key in keys {
+            let value = self.value();
+            self.say(format!("write {slot} {} {value}", key % 4096));
         }
         self.say(format!("commit {slot}"));
     }
@@ -573,8 +640,8 @@ impl Maker {
         self.fill(6, first, 1);
         self.send(b"commit 2");
         self.send(b"show");
-        let mix = Mix { slots: 7, keys: self.neighbours(4), ..self.mix() };
-        self.lines(&mix, 80);
+        let mix = Mix { slots: 7, keys: self.neighbours(9), ..self.mix() };
+        self.lines(&mix, 200);
     }
 
     fn hostile(&mut self) {
@@ -615,6 +682,18 @@ impl Maker {
         }
         line.retain(|&byte| byte != b'\n');
         self.send(&line);
+    }
+
+    /// What stands behind the last line feed.
+    fn tail(&mut self) {
+        let tails: [&[u8]; 10] =
+            [b"", b"show", b"show\r", b"\r", b" ", b"\0", b"sho", b"show\r\r", b"\tshow\t", b"commit 0 now"];
+        let tail = *self.random.pick(&tails);
+        self.input.extend(tail);
+        if self.random.percent(20) {
+            let length = self.random.between(1022, 1026) as usize - tail.len();
+            self.input.extend(b" ".repeat(length));
+        }
     }
 
     fn junk(&mut self) -> Vec<u8> {
@@ -795,6 +874,12 @@ impl Maker {
             bytes.extend(self.crowded(starts.len() as u64));
             return bytes;
         }
+        if self.random.percent(10) {
+            let at = *self.random.pick(&starts) + 6;
+            let key: [u8; 2] = *self.random.pick(&[[15, 255], [16, 0], [16, 1], [0, 16], [255, 255]]);
+            bytes.splice(at..at + 2, key);
+            return bytes;
+        }
         for _ in 0..self.random.between(1, 2) {
             let start = if self.random.percent(50) { *self.random.pick(&starts) } else { *starts.last().unwrap_or(&0) };
             let at = match self.random.below(4) {
@@ -811,11 +896,6 @@ impl Maker {
                     _ => self.random.next() as u8,
                 };
             }
-        }
-        if self.random.percent(15) {
-            let at = *self.random.pick(&starts) + 6;
-            let key: [u8; 2] = *self.random.pick(&[[15, 255], [16, 0], [16, 1], [0, 16], [255, 255]]);
-            bytes.get_mut(at..at + 2).map(|place| place.copy_from_slice(&key));
         }
         match self.random.below(8) {
             0 => bytes.truncate(self.random.below(bytes.len() as u64 + 1) as usize),
