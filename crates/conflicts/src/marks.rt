@@ -3,7 +3,7 @@ ghost use mathlib.Core.List.{map};
 ghost use Rattle.std.specs.Vec.{made};
 ghost use Rattle.model.specs.Lists.{any};
 ghost use Rattle.transactions.specs.Transactions.{modelOf};
-ghost use Rattle.conflicts.specs.Marks.{lowest, since, markOf, markNumber, isPassed, isPassing, turns, remarked, newMark};
+ghost use Rattle.conflicts.specs.Marks.{lowest, since, markOf, markNumber, isPassed, isPassing, turns, wouldPivot, remarked, newMark};
 use super::committed::*;
 use model::*;
 use std::alloc::AllocError;
@@ -92,6 +92,13 @@ pub fn first_passing(t: &Transaction, all: &[Committed]) -> Option<u32>
         }
     }
     None
+}
+
+// Whether t or one of them would be a pivot with t among the commits.
+pub fn pivot_with(t: &Transaction, all: &[Committed]) -> bool
+    ensures { λ r. ⌜ r ≡ wouldPivot (modelOf (now (t .entry))) (map markOf (now (all .entry))) ⌝ }
+{
+    some_turns(t, all) || first_passed(t, all).is_some() && first_passing(t, all).is_some()
 }
 
 // Notes with each that t has committed with this number.

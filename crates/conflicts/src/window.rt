@@ -2,6 +2,7 @@ ghost use mathlib.Core.Path.{_≡_};
 ghost use mathlib.Core.List.{[]};
 ghost use Rattle.transactions.specs.Transactions.{modelOf};
 ghost use Rattle.conflicts.specs.Marks.{marksOf, wouldPivot, from, Taken, TakenIn};
+ghost use Rattle.conflicts.specs.Held.{PivotTold, Entered, Forgot, VerdictTold};
 use super::committed::*;
 use super::marks::*;
 use model::*;
@@ -10,6 +11,7 @@ use std::alloc::Global;
 use transactions::transaction::*;
 
 impl Window {
+    // Holds nothing, as after no commit.
     pub fn new(heap: Global) -> Window
         ensures { λ r. ⌜ marksOf r ≡ [] ⌝ }
     {
@@ -18,12 +20,35 @@ impl Window {
         }
     }
 
-    // Whether there would be a pivot with t among the commits.
+    // Whether there would be a pivot with t, a Serial, among the commits.
     pub fn would_pivot(&self, t: &Transaction) -> bool
-        ensures { λ r. ⌜ r ≡ wouldPivot (modelOf (now (t .entry))) (marksOf (now (self .entry))) ⌝ }
+        ensures marks { λ r. ⌜ r ≡ wouldPivot (modelOf (now (t .entry))) (marksOf (now (self .entry))) ⌝ }
+        ensures rules { λ r. ⌜ PivotTold (now (self .entry)) (modelOf (now (t .entry))) r ⌝ }
     {
-        some_turns(t, &self.all)
-            || first_passed(t, &self.all).is_some() && first_passing(t, &self.all).is_some()
+        pivot_with(t, &self.all)
+    }
+
+    // Why the rules refuse the commit of t, if they do, given whether a commit that t did not see wrote a key that it writes.
+    pub fn verdict(&self, t: &Transaction, conflict: bool) -> Option<Refusal>
+        ensures { λ r. ⌜ VerdictTold (now (self .entry)) (modelOf (now (t .entry))) conflict r ⌝ }
+    {
+        match t.level {
+            Level::Latest => None,
+            Level::Snapshot => if conflict {
+                Some(Refusal::WriteConflict)
+            } else {
+                None
+            },
+            Level::Serial => {
+                if conflict {
+                    Some(Refusal::WriteConflict)
+                } else if self.would_pivot(t) {
+                    Some(Refusal::Pivot)
+                } else {
+                    None
+                }
+            }
+        }
     }
 
     // Takes in a Serial, committed with this number; where memory fails all is as before.
@@ -40,7 +65,8 @@ impl Window {
 
     // Takes in t, committed with this number. Only a Serial is kept. Where memory fails all is as before.
     pub fn take_in(&mut self, t: &Transaction, number: u32) -> Result<(), Refusal>
-        ensures { λ r. ⌜ TakenIn (modelOf (now (t .entry))) number (marksOf (now (self .entry))) (marksOf (now (self .exit))) r ⌝ }
+        ensures marks { λ r. ⌜ TakenIn (modelOf (now (t .entry))) number (marksOf (now (self .entry))) (marksOf (now (self .exit))) r ⌝ }
+        ensures rules { λ r. ⌜ Entered (now (self .entry)) (now (self .exit)) (modelOf (now (t .entry))) number r ⌝ }
     {
         match t.level {
             Level::Latest | Level::Snapshot => Ok(()),
@@ -51,9 +77,11 @@ impl Window {
         }
     }
 
-    // Forgets those whose number is below the floor.
+    // Forgets those whose number is below the floor, which is the lowest begin of the Serials under way, or the number of
+    // commits done where there is none.
     pub fn forget(&mut self, floor: u32)
-        ensures { λ _. ⌜ marksOf (now (self .exit)) ≡ from floor (marksOf (now (self .entry))) ⌝ }
+        ensures marks { λ _. ⌜ marksOf (now (self .exit)) ≡ from floor (marksOf (now (self .entry))) ⌝ }
+        ensures rules { λ _. ⌜ Forgot (now (self .entry)) (now (self .exit)) floor ⌝ }
     {
         let n = self.all.len();
         let mut gone = 0;

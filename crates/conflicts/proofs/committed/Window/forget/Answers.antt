@@ -4,8 +4,9 @@ use Prim.Native.Nat.{_<_, _≤_, _-_}
 use native.Mathlib.Omega.{arith}
 use lib.ListN.{length, take, drop}
 use Rattle.std.specs.Of.Vec.{vec-items}
-use Rattle.conflicts.specs.Marks.{markOf, from}
+use Rattle.conflicts.specs.Marks.{markOf, marksOf, from}
 use Rattle.conflicts.proofs.Loops.{from-on, from-here, from-all, cut-front}
+use Rattle.conflicts.proofs.Rules.{forgot-by-marks}
 use Rattle.conflicts.proofs.committed.Window.forget.Needs as need
 use Rattle.conflicts.proofs.committed.Window.forget.Needs.{then-loop-gone-test·else-index-floor, else-loop-gone-test}
 
@@ -31,4 +32,5 @@ returns c =
           (let l : length xs ≤ i = omega (arith, w .loop-gone-test .left) in
           from-all markOf (c .args .floor) xs i (c .loop-gone .inv .1) l)
     ] in
-    ap (map markOf) a ∙ sym b
+    let m : marksOf (record { all = c .truncate .last .self }) ≡ from (c .args .floor) (marksOf (c .args .self .now)) = ap (map markOf) a ∙ sym b in
+    record { marks = m; rules = forgot-by-marks (c .args .self .now) (record { all = c .truncate .last .self }) (c .args .floor) m }
