@@ -6,3 +6,4 @@ pub mod Passing
 pub mod Marked
 pub mod Forgetting
 pub mod Rules
+pub mod Allowing

@@ -41,6 +41,10 @@ heldOf floor ds = map (markAmong ds) (kept (recent floor) ds)
 abbrev pub Holds : List Txn → ℕ → Window → Type 0
 Holds done floor w = marksOf w ≡ heldOf floor (commits done)
 
+-- w holds what is to be held of any commits from their end on
+abbrev pub Fresh : Window → Type 0
+Fresh w = (done : List Txn) (floor : ℕ) → length done ≤ floor → Holds done floor w
+
 -- each began no later than it committed, the first with number n
 abbrev pub Timely : ℕ → List Txn → Type 0
 Timely n [] = Unit {0}

@@ -1,8 +1,8 @@
 ghost use mathlib.Core.Path.{_≡_};
 ghost use mathlib.Core.List.{[]};
 ghost use Rattle.transactions.specs.Transactions.{modelOf};
-ghost use Rattle.conflicts.specs.Marks.{marksOf, wouldPivot, from, Taken, TakenIn};
-ghost use Rattle.conflicts.specs.Held.{PivotTold, Entered, Forgot, VerdictTold};
+ghost use Rattle.conflicts.specs.Marks.{marksOf, wouldPivot, judged, from, Taken, TakenIn};
+ghost use Rattle.conflicts.specs.Held.{Fresh, PivotTold, Entered, Forgot, VerdictTold};
 use super::committed::*;
 use super::marks::*;
 use model::*;
@@ -11,9 +11,10 @@ use std::alloc::Global;
 use transactions::transaction::*;
 
 impl Window {
-    // Holds nothing, as after no commit.
+    // Holds nothing, as is right with any commits done where no Serial is under way.
     pub fn new(heap: Global) -> Window
-        ensures { λ r. ⌜ marksOf r ≡ [] ⌝ }
+        ensures marks { λ r. ⌜ marksOf r ≡ [] ⌝ }
+        ensures rules { λ r. ⌜ Fresh r ⌝ }
     {
         Window {
             all: Vec::new(heap),
@@ -30,7 +31,8 @@ impl Window {
 
     // Why the rules refuse the commit of t, if they do, given whether a commit that t did not see wrote a key that it writes.
     pub fn verdict(&self, t: &Transaction, conflict: bool) -> Option<Refusal>
-        ensures { λ r. ⌜ VerdictTold (now (self .entry)) (modelOf (now (t .entry))) conflict r ⌝ }
+        ensures marks { λ r. ⌜ r ≡ judged (modelOf (now (t .entry)) .level) conflict (wouldPivot (modelOf (now (t .entry))) (marksOf (now (self .entry)))) ⌝ }
+        ensures rules { λ r. ⌜ VerdictTold (now (self .entry)) (modelOf (now (t .entry))) conflict r ⌝ }
     {
         match t.level {
             Level::Latest => None,
