@@ -6,7 +6,7 @@ use Prim.Native.Nat.{ℕ, _≤_}
 use lib.ListN.{length}
 use Rattle.model.specs.Transactions.{Txn, isSerial}
 use Rattle.model.specs.Commits.{commits}
-use Rattle.conflicts.specs.declared.committed.Window.{Window}
+use Rattle.conflicts.specs.declared.window.Window.{Window}
 use Rattle.conflicts.specs.Marks.{marksOf, wouldPivot, from, takenIn}
 use Rattle.conflicts.specs.Held.{heldOf, Holds, Next, PivotTold, Forgot}
 use Rattle.conflicts.proofs.Marked.{told, entered-serial, entered-other}

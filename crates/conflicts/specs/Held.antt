@@ -13,7 +13,7 @@ use Rattle.model.specs.declared.Refusal.the-variants.{NoMemory}
 use Rattle.model.specs.Lists.{kept}
 use Rattle.model.specs.Transactions.{Txn, isSerial}
 use Rattle.model.specs.Commits.{Commit, commits, passes, hasPivot, wroteSince, verdict}
-use Rattle.conflicts.specs.declared.committed.Window.{Window}
+use Rattle.conflicts.specs.declared.window.Window.{Window}
 use Rattle.conflicts.specs.Marks.{Mark, lowest, marksOf}
 
 abbrev pub commitNumber : Commit → ℕ

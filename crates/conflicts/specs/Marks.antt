@@ -17,8 +17,8 @@ use Rattle.model.specs.declared.Refusal.the-variants.{NoMemory, WriteConflict, 
 use Rattle.model.specs.Lists.{any}
 use Rattle.model.specs.Transactions.{Read, Txn, readsSome, isSerial, isLatest}
 use Rattle.transactions.specs.Noted.{readOf}
-use Rattle.conflicts.specs.declared.committed.Committed.{Committed}
-use Rattle.conflicts.specs.declared.committed.Window.{Window}
+use Rattle.conflicts.specs.declared.window.Committed.{Committed}
+use Rattle.conflicts.specs.declared.window.Window.{Window}
 
 -- a committed Serial: out is the lowest number of a commit that it passes, into the lowest of one that passes it
 pub record Mark : Type 0 where

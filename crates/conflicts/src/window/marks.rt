@@ -4,14 +4,11 @@ ghost use Rattle.std.specs.Vec.{made};
 ghost use Rattle.model.specs.Lists.{any};
 ghost use Rattle.transactions.specs.Transactions.{modelOf};
 ghost use Rattle.conflicts.specs.Marks.{lowest, since, markOf, markNumber, isPassed, isPassing, turns, wouldPivot, remarked, newMark};
-use super::committed::*;
+use super::*;
 use model::*;
 use std::alloc::AllocError;
 use std::alloc::Global;
-use transactions::looks::*;
-use transactions::noted::*;
-use transactions::steps::*;
-use transactions::transaction::*;
+use transactions::*;
 
 // The number that was there, or else this one, if there is one now.
 fn first_number(old: Option<u32>, now_too: bool, number: u32) -> Option<u32>

@@ -3,7 +3,7 @@ use mathlib.Core.List.{map}
 use Rattle.transactions.specs.Transactions.{modelOf}
 use Rattle.conflicts.specs.Marks.{markOf, marksOf, wouldPivot}
 use Rattle.conflicts.proofs.Rules.{pivot-by-marks}
-use Rattle.conflicts.proofs.committed.Window.would_pivot.Needs as need
+use Rattle.conflicts.proofs.window.Window.would_pivot.Needs as need
 
 pub returns : need.returns
 returns c =

@@ -2,7 +2,7 @@ use mathlib.Core.Path.{_≡_, sym, ap, _∙_}
 use mathlib.Core.List.{map, []}
 use Rattle.conflicts.specs.Marks.{markOf, marksOf}
 use Rattle.conflicts.proofs.Forgetting.{nothing-held}
-use Rattle.conflicts.proofs.committed.Window.new.Needs as need
+use Rattle.conflicts.proofs.window.Window.new.Needs as need
 
 pub returns : need.returns
 returns c =

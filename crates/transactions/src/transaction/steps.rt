@@ -4,9 +4,9 @@ ghost use lib.ListN.{length};
 ghost use Rattle.model.specs.Transactions.{began, moment};
 ghost use Rattle.transactions.specs.Noted.{Leaves};
 ghost use Rattle.transactions.specs.Transactions.{notedOf, modelOf, ReadNoted, WriteAdded};
-use super::looks::*;
-use super::noted::*;
-use super::transaction::*;
+use super::*;
+use crate::looks::*;
+use crate::noted::*;
 use model::*;
 
 impl Transaction {

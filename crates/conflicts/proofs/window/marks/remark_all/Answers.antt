@@ -2,7 +2,7 @@ use mathlib.Core.Path.{_≡_, sym, ap, _∙_}
 use Rattle.transactions.specs.Transactions.{modelOf}
 use Rattle.conflicts.specs.Marks.{markOf, remarked}
 use Rattle.conflicts.proofs.Loops.{over-more, over-all}
-use Rattle.conflicts.proofs.marks.remark_all.Needs as need
+use Rattle.conflicts.proofs.window.marks.remark_all.Needs as need
 
 pub loop-c-again : need.loop-c-again
 loop-c-again c =

@@ -6,7 +6,7 @@ use Rattle.std.specs.Of.Vec.{vec-items}
 use Rattle.std.proofs.shelf.Lists.{refilled-is, map-push}
 use Rattle.transactions.specs.Transactions.{modelOf}
 use Rattle.conflicts.specs.Marks.{markOf, remarked, newMark}
-use Rattle.conflicts.proofs.committed.Window.enter.Needs as need
+use Rattle.conflicts.proofs.window.Window.enter.Needs as need
 
 pub returns : need.returns
 returns c =

@@ -5,7 +5,7 @@ use Rattle.transactions.specs.Transactions.{modelOf}
 use Rattle.model.specs.Transactions.{isSerial}
 use Rattle.conflicts.specs.Marks.{marksOf, takenIn}
 use Rattle.conflicts.proofs.Rules.{entered-by-marks, left-by-marks}
-use Rattle.conflicts.proofs.committed.Window.take_in.Needs as need
+use Rattle.conflicts.proofs.window.Window.take_in.Needs as need
 
 pub returns-in-Latest : need.returns-in-Latest
 returns-in-Latest c =

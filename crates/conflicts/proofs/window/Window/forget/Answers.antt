@@ -7,8 +7,8 @@ use Rattle.std.specs.Of.Vec.{vec-items}
 use Rattle.conflicts.specs.Marks.{markOf, marksOf, from}
 use Rattle.conflicts.proofs.Loops.{from-on, from-here, from-all, cut-front}
 use Rattle.conflicts.proofs.Rules.{forgot-by-marks}
-use Rattle.conflicts.proofs.committed.Window.forget.Needs as need
-use Rattle.conflicts.proofs.committed.Window.forget.Needs.{then-loop-gone-test·else-index-floor, else-loop-gone-test}
+use Rattle.conflicts.proofs.window.Window.forget.Needs as need
+use Rattle.conflicts.proofs.window.Window.forget.Needs.{then-loop-gone-test·else-index-floor, else-loop-gone-test}
 
 pub loop-gone-again : need.loop-gone-again
 loop-gone-again c =
