@@ -11,13 +11,14 @@ use Rattle.std.specs.declared.option.Option.the-variants.{Some, None}
 use Rattle.std.specs.declared.result.Result.{Result}
 use Rattle.std.specs.declared.result.Result.the-variants.{Ok, Err}
 use Rattle.model.specs.declared.Entry.{Entry}
+use Rattle.model.specs.declared.Level.{Level}
 use Rattle.model.specs.declared.Refusal.{Refusal}
-use Rattle.model.specs.declared.Refusal.the-variants.{NoMemory}
+use Rattle.model.specs.declared.Refusal.the-variants.{NoMemory, WriteConflict, Pivot}
 use Rattle.model.specs.Lists.{any}
-use Rattle.model.specs.Transactions.{Read, Txn, readsSome, isSerial}
+use Rattle.model.specs.Transactions.{Read, Txn, readsSome, isSerial, isLatest}
 use Rattle.transactions.specs.Noted.{readOf}
-use Rattle.conflicts.specs.declared.committed.Committed.{Committed}
-use Rattle.conflicts.specs.declared.committed.Window.{Window}
+use Rattle.conflicts.specs.declared.window.Committed.{Committed}
+use Rattle.conflicts.specs.declared.window.Window.{Window}
 
 -- a committed Serial: out is the lowest number of a commit that it passes, into the lowest of one that passes it
 pub record Mark : Type 0 where
@@ -60,6 +61,10 @@ turns t m = (isPassed t m && (isSome (m .out) || isPassing t m)) || (isPassing t
 
 abbrev pub wouldPivot : Txn → List Mark → Bool
 wouldPivot t ms = any (turns t) ms || (isSome (lowest markNumber (isPassed t) ms) && isSome (lowest markNumber (isPassing t) ms))
+
+-- why a commit is refused, if it is: a Latest never, a Snapshot for a conflict, a Serial for a conflict or a pivot
+abbrev pub judged : Level → Bool → Bool → Option Refusal
+judged l conflict pivot = cond (isLatest l) None (cond conflict (Some WriteConflict) (cond (isSerial l && pivot) (Some Pivot) None))
 
 -- m after t has committed as number n
 abbrev pub remarked : Txn → ℕ → Mark → Mark

@@ -1,6 +1,5 @@
 ghost use mathlib.Core.Path.{_≡_};
 ghost use Rattle.transactions.specs.Slots.{idle, runOf, begun, beginRefused, read, readRefused, wrote, writeRefused, endRefused};
-use super::steps::*;
 use super::transaction::*;
 use model::*;
 
