@@ -1,7 +1,7 @@
 -- Transactions: what they read and wrote, and what their reads are shown.
 use mathlib.Core.Bool.{Bool, true, false, cond, _&&_, not}
-use mathlib.Core.List.{List, [], _∷_, _++_}
-use Prim.Native.Nat.{ℕ}
+use mathlib.Core.List.{List, [], _∷_, _++_, map}
+use Prim.Native.Nat.{ℕ, zero, suc, _-_}
 use lib.Dec.{eqb, ltb, leb}
 use lib.ListN.{take}
 use Rattle.model.specs.declared.Entry.{Entry}
@@ -44,9 +44,26 @@ unfoldable pub after : State → List Txn → State
 after m [] = m
 after m (t ∷ ts) = after (puts (t .writes) m) ts
 
--- what a read is shown at a key of its range, when these are the commits
-abbrev pub shows : List Txn → Read → ℕ → ℕ
-shows done r k = puts (r .own) (after empty (take (r .at) done)) k
+-- the first n keys from a on that have something there, with it
+unfoldable pub foundFrom : State → ℕ → ℕ → List Entry
+foundFrom m a zero = []
+foundFrom m a (suc n) = cond (eqb (m a) 0) (foundFrom m (suc a) n) (record { key = a; value = m a } ∷ foundFrom m (suc a) n)
+
+-- what is found in the keys from a up to and not including b, in rising order
+abbrev pub found : State → ℕ → ℕ → List Entry
+found m a b = foundFrom m a (b - a)
+
+-- the answer of a read whose own writes stand over the state m
+abbrev pub answerIn : State → Read → List Entry
+answerIn m r = found (puts (r .own) m) (r .from) (r .to)
+
+-- the answers of a transaction's reads, in their order, when it runs alone from the state m
+abbrev pub alone : State → Txn → List (List Entry)
+alone m t = map (answerIn m) (t .reads)
+
+-- the answer of a read when these are the commits
+abbrev pub answered : List Txn → Read → List Entry
+answered done r = answerIn (after empty (take (r .at) done)) r
 
 -- one of the writes is of the key
 abbrev pub names : ℕ → List Entry → Bool

@@ -1,5 +1,5 @@
 // What each call does.
-use conflicts::committed::Window;
+use conflicts::Window;
 use model::Answer;
 use model::Call;
 use model::Counts;
@@ -8,8 +8,8 @@ use model::Level;
 use model::Refusal;
 use model::Request;
 use std::alloc::Global;
-use transactions::slot::Slot;
-use transactions::transaction::Transaction;
+use transactions::Slot;
+use transactions::Transaction;
 use versions::Versions;
 use crate::state::Store;
 

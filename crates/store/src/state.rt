@@ -1,8 +1,8 @@
 // The state of the engine.
 ghost use mathlib.Core.Path.{_≡_};
 ghost use lib.ListN.{length};
-use conflicts::committed::Window;
-use transactions::slot::Slot;
+use conflicts::Window;
+use transactions::Slot;
 use versions::Versions;
 
 #[derive(Drop)]
