@@ -68,7 +68,11 @@ fn reply<S: Service, W: Write>(
 }
 
 // Prints the text.
-fn print<S: Service, W: Write>(service: &mut S, text: &mut String, output: &mut W) -> Result<(), AnyError> {
+fn print<S: Service, W: Write>(
+    service: &mut S,
+    text: &mut String,
+    output: &mut W,
+) -> Result<(), AnyError> {
     service.settle()?;
     output.write_all(text.as_bytes())?;
     output.flush()?;

@@ -1,4 +1,5 @@
 // What each call does.
+use crate::state::Store;
 use conflicts::Window;
 use model::Answer;
 use model::Call;
@@ -11,9 +12,9 @@ use std::alloc::Global;
 use transactions::Slot;
 use transactions::Transaction;
 use versions::Versions;
-use crate::state::Store;
 
 const SLOTS: u32 = 16;
+
 const KEYS: u32 = 4096;
 
 // Whether a number of the call is out of bounds.
@@ -21,7 +22,11 @@ fn out_of_bounds(call: Call) -> bool {
     match call {
         Call::Begin { slot, level } => slot >= SLOTS || level.is_none(),
         Call::Read { slot, from, to } => slot >= SLOTS || to <= from || to > KEYS,
-        Call::Write { slot, key, value: _ } => slot >= SLOTS || key >= KEYS,
+        Call::Write {
+            slot,
+            key,
+            value: _,
+        } => slot >= SLOTS || key >= KEYS,
         Call::Commit { slot } => slot >= SLOTS,
         Call::Abort { slot } => slot >= SLOTS,
         Call::Sweep | Call::Sync | Call::Stop | Call::Show => false,
@@ -42,7 +47,12 @@ fn lower(slot: &Slot, floor: u32, snapshots: bool) -> u32 {
 
 impl<'s, 'a> Store<'s, 'a> {
     pub fn new(heap: Global, versions: &'s mut Versions<'a>) -> Store<'s, 'a> {
-        Store { versions, window: Window::new(heap), slots: [Slot::Idle; 16], commits: 0 }
+        Store {
+            versions,
+            window: Window::new(heap),
+            slots: [Slot::Idle; 16],
+            commits: 0,
+        }
     }
 }
 
@@ -76,8 +86,16 @@ impl Store<'_, '_> {
         }
         match call {
             Call::Begin { slot, level: _ } => self.begin_refusal(slot),
-            Call::Read { slot, from: _, to: _ } => self.read_refusal(slot),
-            Call::Write { slot, key: _, value: _ } => self.write_refusal(slot),
+            Call::Read {
+                slot,
+                from: _,
+                to: _,
+            } => self.read_refusal(slot),
+            Call::Write {
+                slot,
+                key: _,
+                value: _,
+            } => self.write_refusal(slot),
             Call::Commit { slot } => self.commit_refusal(slot),
             Call::Abort { slot } => self.abort_refusal(slot),
             Call::Sweep | Call::Sync | Call::Stop | Call::Show => None,
@@ -114,14 +132,22 @@ impl Store<'_, '_> {
     fn read_refusal(&self, slot: u32) -> Option<Refusal> {
         match self.slot(slot) {
             Slot::Idle => Some(Refusal::SlotState),
-            Slot::Active(t) => if t.reads_full() { Some(Refusal::TooMany) } else { None },
+            Slot::Active(t) => if t.reads_full() {
+                Some(Refusal::TooMany)
+            } else {
+                None
+            },
         }
     }
 
     fn write_refusal(&self, slot: u32) -> Option<Refusal> {
         match self.slot(slot) {
             Slot::Idle => Some(Refusal::SlotState),
-            Slot::Active(t) => if t.writes_full() { Some(Refusal::TooMany) } else { None },
+            Slot::Active(t) => if t.writes_full() {
+                Some(Refusal::TooMany)
+            } else {
+                None
+            },
         }
     }
 
@@ -226,7 +252,11 @@ impl Store<'_, '_> {
 
     fn counts(&self) -> Counts {
         let versions = self.versions.count();
-        Counts { commits: self.commits, versions, busy: self.busy() }
+        Counts {
+            commits: self.commits,
+            versions,
+            busy: self.busy(),
+        }
     }
 
     fn sweep(&mut self) {
@@ -266,7 +296,14 @@ impl Store<'_, '_> {
     }
 
     // What the transaction finds in the range when the first `at` commits are done.
-    fn found(&self, heap: Global, t: &Transaction, at: u32, from: u32, to: u32) -> Result<Vec<Entry>, Refusal> {
+    fn found(
+        &self,
+        heap: Global,
+        t: &Transaction,
+        at: u32,
+        from: u32,
+        to: u32,
+    ) -> Result<Vec<Entry>, Refusal> {
         let mut entries = Vec::new(heap);
         for key in from..to {
             let value = match t.own(key) {

@@ -5,6 +5,7 @@ use versions::Versions;
 use versions::Words;
 
 const PLACES: usize = 32769;
+
 const KEYS: usize = 4096;
 
 // One set of words.
@@ -36,6 +37,10 @@ impl Set {
 
 impl Room {
     pub fn new(heap: Global) -> Result<Room, AllocError> {
-        Ok(Room { first: Set::new(heap)?, second: Set::new(heap)?, stack: vec![in heap; 0u32; PLACES - 1]? })
+        Ok(Room {
+            first: Set::new(heap)?,
+            second: Set::new(heap)?,
+            stack: vec![in heap; 0u32; PLACES - 1]?,
+        })
     }
 }
