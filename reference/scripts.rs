@@ -444,7 +444,7 @@ impl Maker {
             self.lines(&mix, 60);
             self.witness(&mix);
             self.lines(&mix, 140);
-            if round % 2 == 1 {
+            for _ in 0..round % 2 * 3 {
                 let slot = self.slot_between(12, 15);
                 let earlier = self.random.below(round + 1) * 100 + self.random.below(count);
                 let key = if self.random.percent(65) { 2000 + slot } else { earlier };
