@@ -874,8 +874,8 @@ impl Maker {
             bytes.extend(self.crowded(starts.len() as u64));
             return bytes;
         }
-        if self.random.percent(10) {
-            let at = *self.random.pick(&starts) + 6;
+        let at = *self.random.pick(&starts) + 6;
+        if at + 2 <= bytes.len() && self.random.percent(10) {
             let key: [u8; 2] = *self.random.pick(&[[15, 255], [16, 0], [16, 1], [0, 16], [255, 255]]);
             bytes.splice(at..at + 2, key);
             return bytes;
