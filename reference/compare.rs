@@ -283,8 +283,8 @@ fn messages_apart(expected: &[u8], got: &[u8], file: &Path) -> Option<String> {
 // Statistics.
 
 const COLUMNS: [&str; 15] = [
-    "scripts", "lines", "silent", "commit", "read", "show", "no 1", "no 2", "no 3", "no 4", "no 5", "no 6", "no 8", "no 9",
-    "other",
+    "scripts", "lines", "silent", "commit", "read", "show", "no 1", "no 2", "no 3", "no 4", "no 5", "no 6", "no 8",
+    "no 9", "other",
 ];
 
 #[derive(Default)]
@@ -470,7 +470,11 @@ impl Match {
             (Argument::Word(word), _) => format!("{flag} --pass {word}"),
             _ => flag.to_string(),
         };
-        println!("again: tools/compare{flag} --engine {} --seed {} --scripts 1", self.engine.path.display(), found.seed);
+        println!(
+            "again: tools/compare{flag} --engine {} --seed {} --scripts 1",
+            self.engine.path.display(),
+            found.seed
+        );
         if !found.case.pauses.is_empty() {
             println!("(only so: the script waits for answers, or the file is changed, before the input goes on)");
             return Ok(());
