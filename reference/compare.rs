@@ -106,6 +106,18 @@ impl Program {
         folder.join(format!("{}.file", self.name))
     }
 
+    /// The shell's line that starts it, with the file that is saved as `before`, or with none.
+    fn by_hand(&self, folder: &Path, before: bool) -> String {
+        let (path, file) = (self.path.display(), self.file(folder));
+        let file = file.display();
+        match &self.argument {
+            Argument::Nothing => path.to_string(),
+            Argument::Word(word) => format!("{path} {word}"),
+            Argument::File if before => format!("cp {} {file}; {path} {file}", folder.join("before").display()),
+            Argument::File => format!("rm -f {file}; {path} {file}"),
+        }
+    }
+
     fn run(&self, case: &Case, folder: &Path) -> io::Result<Outcome> {
         let file = self.file(folder);
         let (out, err) = (folder.join(format!("{}.out", self.name)), folder.join(format!("{}.err", self.name)));
@@ -188,7 +200,7 @@ fn feed(case: &Case, mut pipe: impl io::Write, out: &Path, file: &Path) -> Vec<R
 fn await_answers(out: &Path, answered: usize) -> Result<(), String> {
     let start = Instant::now();
     while fs::metadata(out).map_or(0, |data| data.len()) < answered as u64 {
-        if start.elapsed() > Duration::from_secs(5) {
+        if start.elapsed() > Duration::from_secs(10) {
             return Err(format!("{answered} bytes of answers did not come before more input was awaited"));
         }
         thread::sleep(Duration::from_micros(150));
@@ -271,8 +283,8 @@ fn messages_apart(expected: &[u8], got: &[u8], file: &Path) -> Option<String> {
 // Statistics.
 
 const COLUMNS: [&str; 15] = [
-    "scripts", "lines", "silent", "commit", "read", "show", "no 1", "no 2", "no 3", "no 4", "no 5", "no 6", "no 8", "no 9",
-    "other",
+    "scripts", "lines", "silent", "commit", "read", "show", "no 1", "no 2", "no 3", "no 4", "no 5", "no 6", "no 8",
+    "no 9", "other",
 ];
 
 #[derive(Default)]
@@ -454,16 +466,22 @@ impl Match {
         };
         println!("seed {} ({:?}): {}", found.seed, scripts::kind(found.seed, self.mode), found.what);
         println!("saved: {at}/ (input, short: a shorter script that differs as well, before: the file at first)");
-        println!("again: tools/compare{flag} --engine {} --seed {} --scripts 1", self.engine.path.display(), found.seed);
+        let flag = match (&self.engine.argument, self.mode) {
+            (Argument::Word(word), _) => format!("{flag} --pass {word}"),
+            _ => flag.to_string(),
+        };
+        println!(
+            "again: tools/compare{flag} --engine {} --seed {} --scripts 1",
+            self.engine.path.display(),
+            found.seed
+        );
+        if !found.case.pauses.is_empty() {
+            println!("(only so: the script waits for answers, or the file is changed, before the input goes on)");
+            return Ok(());
+        }
         for name in ["input", "short"] {
             for program in [&self.reference, &self.engine] {
-                let file = format!("{at}/{}.again", program.name);
-                let (prepare, word) = match &program.argument {
-                    Argument::Nothing => (String::new(), String::new()),
-                    Argument::Word(word) => (String::new(), format!(" {word}")),
-                    Argument::File => (format!("cp {at}/before {file}; "), format!(" {file}")),
-                };
-                println!("   or: {prepare}{}{word} < {at}/{name}", program.path.display());
+                println!("   or: {} < {at}/{name}", program.by_hand(&folder, found.case.before.is_some()));
             }
         }
         Ok(())
@@ -527,6 +545,36 @@ fn with_ending(folder: &Path, ending: &str) -> io::Result<Vec<PathBuf>> {
     }
     paths.sort();
     Ok(paths)
+}
+
+// Starts that fail.
+
+/// Starts a program without a file, and with files that can't be opened or written. Each time it has
+/// to end with status 1 and say why in one line. Tells how many starts there are and how many went wrong.
+fn failing_starts(program: &Program, root: &Path) -> io::Result<(usize, usize)> {
+    let work = work_folder(root, 0);
+    fs::create_dir_all(&work)?;
+    let script = "printf 'begin 0 latest\\ncommit 0\\nshow\\n' | ";
+    let starts = [
+        ("no argument", "\"$0\"".to_string()),
+        ("a folder", "\"$0\" .".to_string()),
+        ("a file in a folder that is not there", "\"$0\" nowhere/file".to_string()),
+        ("a file that can't grow", format!("trap '' XFSZ; ulimit -f 0; {script}\"$0\" file")),
+    ];
+    let mut wrong = 0;
+    for (what, line) in &starts {
+        let mut command = Command::new("sh");
+        command.args(["-c", line]).arg(&program.path).current_dir(&work).stdin(Stdio::null());
+        let done = command.output()?;
+        let said = String::from_utf8_lossy(&done.stderr);
+        if done.status.code() != Some(1) || !done.stdout.is_empty() || said.lines().count() != 1 {
+            wrong += 1;
+            let printed = String::from_utf8_lossy(&done.stdout);
+            println!("{} started with {what}: {}, printed `{printed}`, said `{said}`", program.name, done.status);
+        }
+    }
+    fs::remove_dir_all(&work)?;
+    Ok((starts.len(), wrong))
 }
 
 // Planted bugs.
@@ -616,6 +664,14 @@ fn compare(options: &Options) -> Result<bool, String> {
     let pair = Match::new(options, engine);
     let (count, wrong) = written_cases(&pair).map_err(|problem| problem.to_string())?;
     println!("{count} hand-written cases, {wrong} answers wrong");
+    let mut failed = 0;
+    if options.mode == Mode::File {
+        for program in [&pair.reference, &pair.engine] {
+            let (starts, wrong) = failing_starts(program, &pair.root).map_err(|problem| problem.to_string())?;
+            println!("{}: {starts} starts that have to fail, {wrong} wrong", program.name);
+            failed += wrong;
+        }
+    }
     let statistics = Mutex::default();
     let found = pair.seeds(options, &statistics).map_err(|problem| problem.to_string())?;
     statistics.lock().unwrap().print();
@@ -624,7 +680,7 @@ fn compare(options: &Options) -> Result<bool, String> {
         Some(found) => pair.report(found).map_err(|problem| problem.to_string())?,
         None => println!("{} seeds from {}: no difference ({seconds:.1} s)", options.scripts, options.seed),
     }
-    Ok(wrong == 0 && found.is_none())
+    Ok(wrong + failed == 0 && found.is_none())
 }
 
 fn main() -> ExitCode {

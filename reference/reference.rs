@@ -62,9 +62,7 @@ impl Transaction {
 
     /// Whether one of its ranges looks at the key.
     fn looks_at(&self, key: u64) -> bool {
-        self.reads
-            .iter()
-            .any(|read| read.from <= key && key < read.to && !self.wrote_before(key, read))
+        self.reads.iter().any(|read| read.from <= key && key < read.to && !self.wrote_before(key, read))
     }
 
     /// Whether one of its ranges looks at a key that the other writes.
@@ -165,8 +163,7 @@ impl Reference {
         self.broken = false;
         self.file = None;
         let Home::File(path) = &self.home else { return Ok(()) };
-        let mut file =
-            OpenOptions::new().read(true).append(true).create(true).open(path)?;
+        let mut file = OpenOptions::new().read(true).append(true).create(true).open(path)?;
         let mut bytes = Vec::new();
         file.read_to_end(&mut bytes)?;
         match records(&bytes) {
@@ -214,8 +211,7 @@ impl Reference {
         let words: Vec<&[u8]> =
             line.split(|&byte| byte == b' ' || byte == b'\t').filter(|word| !word.is_empty()).collect();
         let Some((&call, rest)) = words.split_first() else { return Ok(Err(9)) };
-        let calls: [&[u8]; 9] =
-            [b"begin", b"read", b"write", b"commit", b"abort", b"sweep", b"sync", b"stop", b"show"];
+        let calls: [&[u8]; 9] = [b"begin", b"read", b"write", b"commit", b"abort", b"sweep", b"sync", b"stop", b"show"];
         if !calls.contains(&call) {
             return Ok(Err(9));
         }
@@ -259,12 +255,8 @@ impl Reference {
             refusals.insert(9);
         }
         lowest(&refusals)?;
-        self.slots[slot.or(0) as usize] = level.map(|level| Transaction {
-            level,
-            begin: self.commits.len(),
-            reads: Vec::new(),
-            writes: Vec::new(),
-        });
+        self.slots[slot.or(0) as usize] =
+            level.map(|level| Transaction { level, begin: self.commits.len(), reads: Vec::new(), writes: Vec::new() });
         Ok(None)
     }
 
@@ -356,11 +348,7 @@ impl Reference {
 
     /// Reads a line that has a slot and nothing else, and looks for refusals: those of every such
     /// line, and those that the call has besides.
-    fn only_slot(
-        &self,
-        words: &[&[u8]],
-        besides: fn(&Reference, &Transaction) -> BTreeSet<u32>,
-    ) -> Result<usize, u32> {
+    fn only_slot(&self, words: &[&[u8]], besides: fn(&Reference, &Transaction) -> BTreeSet<u32>) -> Result<usize, u32> {
         let mut refusals = BTreeSet::new();
         let slot = Part::of(words.first());
         if slot.or(0) >= SLOTS {
@@ -493,9 +481,7 @@ impl Reference {
         let all = 0..self.commits.len();
         let before: Vec<Vec<usize>> = all
             .clone()
-            .map(|another| {
-                all.clone().filter(|&one| one != another && self.stands_before(one, another)).collect()
-            })
+            .map(|another| all.clone().filter(|&one| one != another && self.stands_before(one, another)).collect())
             .collect();
         let mut left: BTreeSet<usize> = all.collect();
         let mut order = Vec::new();
@@ -559,10 +545,8 @@ fn records(bytes: &[u8]) -> Result<(Vec<Vec<Write>>, usize), (usize, String)> {
         if usize::from(count) > MOST_WRITES {
             return Err((at, format!("{count} writes")));
         }
-        let writes: Vec<Write> = pairs
-            .chunks(6)
-            .map(|pair| Write { key: big_endian(&pair[..2]), value: big_endian(&pair[2..]) })
-            .collect();
+        let writes: Vec<Write> =
+            pairs.chunks(6).map(|pair| Write { key: big_endian(&pair[..2]), value: big_endian(&pair[2..]) }).collect();
         if let Some(write) = writes.iter().find(|write| write.key >= KEYS) {
             return Err((at, format!("key {}", write.key)));
         }

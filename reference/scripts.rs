@@ -175,17 +175,8 @@ enum Act {
     Hostile,
 }
 
-const ACTS: [Act; 9] = [
-    Act::Read,
-    Act::Write,
-    Act::Commit,
-    Act::Abort,
-    Act::Sweep,
-    Act::Sync,
-    Act::Stop,
-    Act::Show,
-    Act::Hostile,
-];
+const ACTS: [Act; 9] =
+    [Act::Read, Act::Write, Act::Commit, Act::Abort, Act::Sweep, Act::Sync, Act::Stop, Act::Show, Act::Hostile];
 
 const LEVELS: [&str; 3] = ["latest", "snapshot", "serial"];
 
@@ -444,7 +435,7 @@ impl Maker {
             self.lines(&mix, 60);
             self.witness(&mix);
             self.lines(&mix, 140);
-            if round % 2 == 1 {
+            for _ in 0..round % 2 * 3 {
                 let slot = self.slot_between(12, 15);
                 let earlier = self.random.below(round + 1) * 100 + self.random.below(count);
                 let key = if self.random.percent(65) { 2000 + slot } else { earlier };
@@ -468,7 +459,11 @@ impl Maker {
     /// A busy slot of some, if there is one.
     fn slot_between(&mut self, low: u64, high: u64) -> u64 {
         let busy: Vec<u64> = self.slots(true, high + 1).into_iter().filter(|&slot| slot >= low).collect();
-        if busy.is_empty() { low } else { *self.random.pick(&busy) }
+        if busy.is_empty() {
+            low
+        } else {
+            *self.random.pick(&busy)
+        }
     }
 
     /// Looks at keys that the old transactions are going to write.
@@ -498,25 +493,16 @@ impl Maker {
         let count = self.random.between(8, 40);
         let levels = *self.random.pick(&[[0, 0, 1], [1, 1, 1]]);
         let spans = *self.random.pick(&[[1, 0, 0, 0, 0], [0, 1, 1, 0, 0], [0, 0, 1, 2, 1], [4, 4, 4, 2, 1]]);
-        let mix = Mix {
-            keys: self.neighbours(count),
-            levels,
-            acts: [45, 30, 16, 2, 1, 0, 0, 1, 0],
-            spans,
-            ..self.mix()
-        };
+        let mix =
+            Mix { keys: self.neighbours(count), levels, acts: [45, 30, 16, 2, 1, 0, 0, 1, 0], spans, ..self.mix() };
         self.lines(&mix, 500);
     }
 
     fn sweeps(&mut self) {
         let count = self.random.between(3, 9);
         let stops = self.random.below(5);
-        let mix = Mix {
-            keys: self.scattered(count),
-            slots: 8,
-            acts: [14, 30, 26, 5, 12, 1, stops, 14, 1],
-            ..self.mix()
-        };
+        let mix =
+            Mix { keys: self.scattered(count), slots: 8, acts: [14, 30, 26, 5, 12, 1, stops, 14, 1], ..self.mix() };
         self.lines(&mix, 500);
     }
 
@@ -549,8 +535,19 @@ impl Maker {
     /// Lines to a transaction that is about full.
     fn brim(&mut self, slot: u64) {
         for line in [
-            "read S 7 8", "read S 7 x", "read S x 0", "read S 8 8", "read S", "read S 0 4096 1", "write S 7 1",
-            "write S 7 4294967296", "write S 4096 1", "write S x 1", "write S", "write S 0 0 0", "read S 7 8",
+            "read S 7 8",
+            "read S 7 x",
+            "read S x 0",
+            "read S 8 8",
+            "read S",
+            "read S 0 4096 1",
+            "write S 7 1",
+            "write S 7 4294967296",
+            "write S 4096 1",
+            "write S x 1",
+            "write S",
+            "write S 0 0 0",
+            "read S 7 8",
             "write S 8 9",
         ] {
             if self.random.percent(70) {
@@ -698,9 +695,28 @@ impl Maker {
 
     fn junk(&mut self) -> Vec<u8> {
         let known: [&[u8]; 22] = [
-            b"", b" ", b"\t", b"\r", b"\r\r", b" \t \r", b"\0", b"show\0", b"\0show", b"show\r\r", b"\rshow", b"SHOW",
-            b"sho", b"shows", b"show show", b"sweep 0", b"sync\x0b", b"\xff\xfe", b"\xc3\x28 0", b"show\xc2\xa0",
-            b"\xef\xbb\xbfshow", b"sync sync",
+            b"",
+            b" ",
+            b"\t",
+            b"\r",
+            b"\r\r",
+            b" \t \r",
+            b"\0",
+            b"show\0",
+            b"\0show",
+            b"show\r\r",
+            b"\rshow",
+            b"SHOW",
+            b"sho",
+            b"shows",
+            b"show show",
+            b"sweep 0",
+            b"sync\x0b",
+            b"\xff\xfe",
+            b"\xc3\x28 0",
+            b"show\xc2\xa0",
+            b"\xef\xbb\xbfshow",
+            b"sync sync",
         ];
         match self.random.below(4) {
             0 => (0..self.random.below(40)).map(|_| self.random.next() as u8).collect(),
@@ -722,7 +738,8 @@ impl Maker {
             words.push(word);
         }
         if call == "begin" {
-            let level = *self.random.pick(&["latest", "snapshot", "serial", "serial", "never", "Serial", "serial\0", "0"]);
+            let level =
+                *self.random.pick(&["latest", "snapshot", "serial", "serial", "never", "Serial", "serial\0", "0"]);
             words.push(level.as_bytes().to_vec());
         } else if call == "read" {
             let (from, to) = self.range(mix);
@@ -763,13 +780,24 @@ impl Maker {
 
     /// A word where the number has to stand: mostly the number, else one at a bound, or no number.
     fn odd_number(&mut self, number: u64, bounds: &[u64]) -> Vec<u8> {
-        let wrong = [
-            "x", "-1", "+1", "1x", "0x1", "1.0", "1e3", "\u{663}", "1\0", "\0", "1\r1", "1_000", "--", "=", "",
-        ];
+        let wrong =
+            ["x", "-1", "+1", "1x", "0x1", "1.0", "1e3", "\u{663}", "1\0", "\0", "1\r1", "1_000", "--", "=", ""];
         let large = [
-            "256", "65535", "65536", "65537", "2147483648", "4294967295", "4294967296", "4294967297", "4294967311",
-            "18446744073709551615", "18446744073709551616", "18446744073709551617", "18446744073709551631",
-            "340282366920938463463374607431768211456", "99999999999999999999999999999999999999999999999999",
+            "256",
+            "65535",
+            "65536",
+            "65537",
+            "2147483648",
+            "4294967295",
+            "4294967296",
+            "4294967297",
+            "4294967311",
+            "18446744073709551615",
+            "18446744073709551616",
+            "18446744073709551617",
+            "18446744073709551631",
+            "340282366920938463463374607431768211456",
+            "99999999999999999999999999999999999999999999999999",
         ];
         let word = match self.random.below(20) {
             0..=10 => number.to_string(),
@@ -874,8 +902,8 @@ impl Maker {
             bytes.extend(self.crowded(starts.len() as u64));
             return bytes;
         }
-        if self.random.percent(10) {
-            let at = *self.random.pick(&starts) + 6;
+        let at = *self.random.pick(&starts) + 6;
+        if at + 2 <= bytes.len() && self.random.percent(10) {
             let key: [u8; 2] = *self.random.pick(&[[15, 255], [16, 0], [16, 1], [0, 16], [255, 255]]);
             bytes.splice(at..at + 2, key);
             return bytes;
@@ -924,8 +952,19 @@ impl Maker {
         let mut lines = vec!["show", "begin 0 snapshot", "read 0 0 4096", "write 0 7 9", "write 0 4095 0", "commit 0"];
         lines.extend(["show", "begin 1 serial", "read 1 0 4096"]);
         let extra = [
-            "stop x", "stopp", "", "commit x", "abort 1 1", "sync", "sweep", "show 1", "begin 16 never", "stop",
-            "write 1 4096 x", "read 1 0 4097", "begin 1",
+            "stop x",
+            "stopp",
+            "",
+            "commit x",
+            "abort 1 1",
+            "sync",
+            "sweep",
+            "show 1",
+            "begin 16 never",
+            "stop",
+            "write 1 4096 x",
+            "read 1 0 4097",
+            "begin 1",
         ];
         for line in extra {
             if self.random.percent(20) {
