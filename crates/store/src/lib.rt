@@ -5,4 +5,4 @@ mod state;
 
 pub use room::Room;
 pub use room::Set;
-pub use state::Store;
+pub use state::Tables;

@@ -10,10 +10,11 @@ ghost use Rattle.versions.specs.Lent.{lentBy};
 ghost use Rattle.versions.specs.Laws.{someNewer};
 ghost use Rattle.versions.specs.Sizes.{roomIn};
 ghost use Rattle.versions.specs.Store.{held, size, spaces, roomFor, Committed};
-ghost use Rattle.versions.specs.History.{Holds, ShownBy, NewerBy, ConflictBy, CommitBy, SweepBy};
+ghost use Rattle.versions.specs.History.{Holds, ShownBy, NewerBy, ConflictBy, CountBy, RoomBy, CommitBy, SweepBy, FewBy};
 use super::Versions;
 use crate::chains::Chains;
 use crate::spare::Spare;
+use crate::words::ROOM;
 use crate::words::Words;
 use crate::writes::outside;
 use crate::writes::versions_of;
@@ -27,8 +28,8 @@ fn room_in(words: &Words, spare: &Words, stack: &[u32]) -> u32
     ensures spare { λ r. ⌜ Fits (lentBy (now (spare .entry))) r ⌝ }
     ensures stack { λ r. ⌜ r ≤ length (now (stack .entry)) ⌝ }
 {
-    if words.sized() && spare.sized() && stack.len() == 32768 {
-        32768
+    if words.sized() && spare.sized() && stack.len() == ROOM as usize {
+        ROOM
     } else {
         0
     }
@@ -76,12 +77,10 @@ impl Versions<'_> {
         ensures value { λ r. ⌜ r ≡ someNewer begin (held (now (self .entry))) (now (writes .entry)) ⌝ }
         ensures history { λ r. ⌜ ConflictBy (now (self .entry)) (now (writes .entry)) begin r ⌝ }
     {
-        let mut i = 0;
-        while i < writes.len() {
-            if self.newer(writes[i].key, begin) {
+        for w in writes {
+            if self.newer(w.key, begin) {
                 return true;
             }
-            i += 1;
         }
         false
     }
@@ -90,6 +89,7 @@ impl Versions<'_> {
     pub fn count(&self) -> u32
         ensures count { λ r. ⌜ r ≡ size (now (self .entry)) ⌝ }
         ensures bound { λ r. ⌜ r ≤ spaces (now (self .entry)) ⌝ }
+        ensures history { λ r. ⌜ CountBy (now (self .entry)) r ⌝ }
     {
         self.chains.count
     }
@@ -104,7 +104,8 @@ impl Versions<'_> {
 
     // Whether there is room for the versions that the writes make.
     pub fn room_for(&self, writes: &[Entry]) -> bool
-        ensures { λ r. ⌜ r ≡ roomFor (now (self .entry)) (now (writes .entry)) ⌝ }
+        ensures value { λ r. ⌜ r ≡ roomFor (now (self .entry)) (now (writes .entry)) ⌝ }
+        ensures history { λ r. ⌜ RoomBy (now (self .entry)) (now (writes .entry)) r ⌝ }
     {
         versions_of(writes) <= (self.chains.room - self.chains.count) as usize
     }
@@ -131,6 +132,7 @@ impl Versions<'_> {
         ensures size { λ _. ⌜ size (now (self .exit)) ≡ total (λ k. swept floor (held (now (self .entry)) k)) ⌝ }
         ensures spaces { λ _. ⌜ spaces (now (self .exit)) ≡ spaces (now (self .entry)) ⌝ }
         ensures history { λ _. ⌜ SweepBy floor (now (self .entry)) (now (self .exit)) ⌝ }
+        ensures few { λ _. ⌜ FewBy floor (now (self .entry)) (now (self .exit)) ⌝ }
     {
         self.spare.sweep(&self.chains, floor);
         std::mem::swap(&mut self.chains, &mut self.spare.to);
