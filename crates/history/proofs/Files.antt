@@ -1,12 +1,10 @@
 -- How many whole records there are in the first bytes of a file.
-use mathlib.Core.Path.{_≡_}
-use mathlib.Core.Bool.{Bool, true, false, cond}
 use mathlib.Core.List.{List, [], _∷_}
 use Prim.Native.Nat.{ℕ, zero, suc, _-_, _≤_}
 use native.Mathlib.Omega.{arith}
 use lib.Dec.{leb}
 use lib.ListN.{length, take}
-use Rattle.std.proofs.shelf.Tests.{cond-both, lt-leb, leb-false}
+use Rattle.std.proofs.shelf.Tests.{cond-both, leb-false}
 use Rattle.model.specs.Transactions.{Txn}
 use Rattle.history.specs.Engine.{recordSize, bytesIn, wholeIn}
 

@@ -4,3 +4,4 @@ pub mod Floors
 pub mod Files
 pub mod Lives
 pub mod Sounding
+pub mod Promising

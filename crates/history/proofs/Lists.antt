@@ -32,6 +32,10 @@ none-there zero j = refl
 none-there (suc n) zero = refl
 none-there (suc n) (suc j) = none-there n j
 
+pub none-or-some : {X : Type 0} (P : Option X → Type 0) → P None → ((x : X) → P (Some x)) → (o : Option X) → P o
+none-or-some P n s None = n
+none-or-some P n s (Some x) = s x
+
 pub none-some : {X : Type 0} {x : X} → None ≡ Some x → ⊥
 none-some h = let z : _≡_ {A = ℕ} 0 1 = cc in omega arith
 

@@ -1,13 +1,13 @@
 -- Transactions that ended or stand, as events go on.
 use mathlib.Core.Path.{_≡_, refl, sym, ap, _∙_}
 use mathlib.Core.Logic.{_⊎_, inl, inr}
-use mathlib.Core.Bool.{Bool, true, false, cond, _||_}
+use mathlib.Core.Bool.{false}
 use mathlib.Core.List.{List, [], _∷_, _++_, map, List·Memᴰ, List·Memᴰ·not-nil, List·Memᴰ·append-cases, List·Memᴰ·eq-of-singleton}
-use Prim.Native.Nat.{ℕ, _+_, _≤_, _<_}
+use Prim.Native.Nat.{ℕ, _≤_}
 use native.Mathlib.Omega.{arith}
 use lib.Dec.{leb}
 use lib.ListN.{length, take}
-use Rattle.std.proofs.shelf.Lists.{take-take, take-map, map-push, length-push, map-append}
+use Rattle.std.proofs.shelf.Lists.{take-take, take-map, map-push, length-push}
 use Rattle.std.proofs.shelf.Tests.{cond-both, cond-false, or-from, leb-false}
 use Rattle.model.specs.declared.Entry.{Entry}
 use Rattle.model.specs.declared.Level.{Level}

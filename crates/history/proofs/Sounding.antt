@@ -1,12 +1,12 @@
 -- Events lead only to sound engines.
-use mathlib.Core.Path.{_≡_, refl, sym, ap, subst, _∙_}
+use mathlib.Core.Path.{_≡_, refl, sym, subst, _∙_}
 use mathlib.Core.Logic.{_⊎_, inl, inr}
-use mathlib.Core.Bool.{Bool, true, false, cond, not, _||_}
+use mathlib.Core.Bool.{Bool, false, not}
 use mathlib.Core.List.{List, [], _∷_, _++_, map}
 use Prim.Native.Nat.{ℕ, _+_, _≤_, _<_}
 use native.Mathlib.Omega.{arith}
 use lib.Dec.{leb, ltb}
-use lib.ListN.{length, take, getD, set, replicate}
+use lib.ListN.{length, take, getD, set}
 use Rattle.std.specs.declared.option.Option.{Option}
 use Rattle.std.specs.declared.option.Option.the-variants.{Some, None}
 use Rattle.std.proofs.shelf.Lists.{take-append-le, take-take, take-map, map-push, length-map, length-push, length-set, length-take-le, getD-append-left, getD-push, getD-take}
@@ -15,9 +15,8 @@ use Rattle.model.specs.declared.Call.{Call}
 use Rattle.model.specs.declared.Call.the-variants.{Begin, Read, Write, Commit, Abort, Sweep, Sync, Stop, Show}
 use Rattle.model.specs.declared.Entry.{Entry}
 use Rattle.model.specs.declared.Level.{Level}
-use Rattle.model.specs.declared.Refusal.{Refusal}
 use Rattle.model.specs.declared.Refusal.the-variants.{TooMany, NoRoom, LastCommit}
-use Rattle.model.specs.Transactions.{Txn, isLatest, began}
+use Rattle.model.specs.Transactions.{isLatest, began}
 use Rattle.model.specs.Commits.{verdict}
 use Rattle.model.specs.Versions.{keysOf}
 use Rattle.conflicts.specs.Laws.{Allowed}
