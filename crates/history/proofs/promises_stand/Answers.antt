@@ -1,0 +1,5 @@
+use Rattle.history.proofs.Promising.{promises}
+use Rattle.history.proofs.promises_stand.Needs as need
+
+pub returns : need.returns
+returns c = promises
