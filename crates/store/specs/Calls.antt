@@ -1,10 +1,10 @@
 -- What each method of the store does, by the engine as the rules have it.
 use mathlib.Core.Path.{_≡_}
 use mathlib.Core.Bool.{Bool, true, false, cond}
-use mathlib.Core.List.{List, [], _∷_, _++_}
+use mathlib.Core.List.{List, [], _∷_, _++_, map}
 use mathlib.Core.Logic.{_⊎_}
-use Prim.Native.Nat.{ℕ}
-use lib.ListN.{length}
+use Prim.Native.Nat.{ℕ, _≤_, _<_}
+use lib.ListN.{length, take, set}
 use Rattle.std.specs.declared.option.Option.{Option}
 use Rattle.std.specs.declared.option.Option.the-variants.{Some, None}
 use Rattle.std.specs.Of.Vec.{vec-items}
@@ -16,8 +16,14 @@ use Rattle.model.specs.declared.Refusal.{Refusal}
 use Rattle.model.specs.declared.Refusal.the-variants.{OutOfBounds, BadLine, NoMemory}
 use Rattle.model.specs.declared.Request.{Request}
 use Rattle.model.specs.declared.Request.the-variants.{Whole, Faulty, Slotless, Unknown}
-use Rattle.model.specs.Transactions.{Txn, isSerial}
-use Rattle.history.specs.Engine.{Life, Engine, slotAt, outOfBounds, commitRefusal, slotRefusal, refusalOf, performed, replied, called, replyTo, Reply, done, found, committed, shown, refused, Event, Called, led}
+use Rattle.model.specs.declared.Counts.{Counts}
+use Rattle.model.specs.declared.Entry.{Entry}
+use Rattle.model.specs.Transactions as rules
+use Rattle.model.specs.Transactions.{Txn, isSerial, puts, after, empty}
+use Rattle.transactions.specs.Slots.{Run, runOf}
+use Rattle.std.specs.declared.result.Result.{Result}
+use Rattle.std.specs.declared.result.Result.the-variants.{Ok, Err}
+use Rattle.history.specs.Engine.{Life, Engine, txns, slotAt, outOfBounds, commitRefusal, slotRefusal, refusalOf, performed, replied, called, replyTo, Reply, done, found, committed, shown, refused, Event, Called, led}
 use Rattle.history.specs.Sound.{Sound}
 use Rattle.store.specs.Fits.{Fits}
 use Rattle.store.specs.declared.state.Tables.{Tables}
@@ -44,6 +50,15 @@ SlotRefuses c s r = (e : Engine) → Sound e → Is e s → r ≡ slotRefusal c 
 -- r is why the transaction, which runs in some slot, may not commit
 abbrev pub Judges : Txn → Tables → Option Refusal → Type 0
 Judges t s r = (e : Engine) → Sound e → Is e s → (i : ℕ) (l : Life) → slotAt i e ≡ Some l → t ≡ l .txn → r ≡ commitRefusal e l
+
+-- only what runs in a slot has changed
+abbrev pub Puts : ℕ → Run → Tables → Tables → Type 0
+Puts i x s t =
+    (map runOf (t .slots) ≡ set (map runOf (s .slots)) i x) × (t .versions .now ≡ s .versions .now) × (t .window ≡ s .window) × (t .commits ≡ s .commits)
+
+-- they are the engine that they were
+abbrev pub Keeps : Tables → Tables → Type 0
+Keeps s t = (e : Engine) → Is e s → Is e t
 
 -- the tables have done a call that is not refused
 abbrev pub Performs : Call → Tables → Tables → Type 0
@@ -72,6 +87,35 @@ Answers c e f r t a =
 
 abbrev pub PerformsOr : Call → Tables → Tables → Answer → Type 0
 PerformsOr c s t a = (e : Engine) → Sound e → Is e s → refusalOf c e ≡ None → Answers c e (performed c e) (replied c e) t a
+
+abbrev pub Counted : Tables → Counts → Type 0
+Counted s r = (e : Engine) → Is e s → shown (r .commits) (r .versions) (r .busy) ≡ replied Show e
+
+-- what stands for t at a key when the first at commits are done, where no version that it needs is gone
+abbrev pub StandsAt : Txn → ℕ → ℕ → Tables → ℕ → Type 0
+StandsAt t at k s r = (e : Engine) → Is e s → e .floor ≤ at → k < 4096 → r ≡ puts (t .writes) (after empty (take at (txns e))) k
+
+abbrev pub Finds : Txn → ℕ → ℕ → ℕ → Tables → List Entry → Type 0
+Finds t at a b s r = (e : Engine) → Is e s → e .floor ≤ at → b ≤ 4096 → r ≡ rules.found (puts (t .writes) (after empty (take at (txns e)))) a b
+
+-- a read of the transaction that runs in the slot
+abbrev pub ReadsBy : ℕ → Txn → ℕ → ℕ → Tables → Tables → Answer → Type 0
+ReadsBy i t a b s u r = (e : Engine) (l : Life) → Sound e → Is e s → slotAt i e ≡ Some l → t ≡ l .txn → refusalOf (Read i a b) e ≡ None →
+    Answers (Read i a b) e (performed (Read i a b) e) (replied (Read i a b) e) u r
+
+-- a commit of the transaction that runs in the slot
+abbrev pub CommitsBy : ℕ → Txn → Tables → Tables → Answer → Type 0
+CommitsBy i t s u r = (e : Engine) (l : Life) → Sound e → Is e s → slotAt i e ≡ Some l → t ≡ l .txn → refusalOf (Commit i) e ≡ None →
+    Answers (Commit i) e (performed (Commit i) e) (replied (Commit i) e) u r
+
+-- the commit is among the others, and its slot is still busy; or memory is wanted
+abbrev pub entered : Engine → Life → Engine
+entered e l = record { done = e .done ++ (l ∷ []); synced = e .synced; floor = e .floor; slots = e .slots }
+
+abbrev pub Enters : {X : Type 0} → Txn → Tables → Tables → Result X Refusal → Type 0
+Enters t s u (Ok x) = (e : Engine) (i : ℕ) (l : Life) → Sound e → Is e s → slotAt i e ≡ Some l → t ≡ l .txn → Is (entered e l) u
+Enters t s u (Err y) = (e : Engine) (i : ℕ) (l : Life) → Sound e → Is e s → slotAt i e ≡ Some l → t ≡ l .txn → commitRefusal e l ≡ None →
+    (isSerial (t .level) ≡ true) × Is e u × (y ≡ NoMemory)
 
 -- whatever events led to the tables, they are where they and the call lead, and the answer is the one that the rules give
 abbrev pub Does : Call → Tables → Tables → Answer → Type 0

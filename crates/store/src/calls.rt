@@ -5,13 +5,15 @@ ghost use mathlib.Core.List.{map};
 ghost use Prim.Native.Nat.{_<_};
 ghost use lib.Dec.{leb};
 ghost use lib.ListN.{getD};
+ghost use Rattle.std.specs.Of.Vec.{vec-items};
+ghost use Rattle.std.specs.Vec.{made};
 ghost use Rattle.transactions.specs.Slots.{idle, runOf, beginRefused, readRefused, writeRefused, endRefused};
 ghost use Rattle.transactions.specs.Transactions.{modelOf};
-ghost use Rattle.model.specs.declared.Call.the-variants.{Commit};
+ghost use Rattle.model.specs.declared.Call.the-variants.{Begin, Read, Write, Commit, Abort, Sweep, Stop};
 ghost use Rattle.model.specs.declared.Refusal.the-variants.{NoRoom, LastCommit};
 ghost use Rattle.history.specs.Engine.{outOfBounds, when, firstOf};
 ghost use Rattle.store.specs.Fits.{counts, lowerRun, floorOf, busyRun, busyOf};
-ghost use Rattle.store.specs.Calls.{Refuses, SlotRefuses, Judges};
+ghost use Rattle.store.specs.Calls.{Refuses, SlotRefuses, Judges, Puts, Keeps, Performs, PerformsOr, Counted, Finds, StandsAt, ReadsBy, CommitsBy, Enters};
 use conflicts::Window;
 use model::Answer;
 use model::Call;
@@ -19,6 +21,7 @@ use model::Counts;
 use model::Entry;
 use model::Level;
 use model::Refusal;
+use std::alloc::AllocError;
 use std::alloc::Global;
 use transactions::Slot;
 use transactions::Transaction;
@@ -195,5 +198,192 @@ impl Tables<'_, '_> {
         let judged = self.window.verdict(t, conflict);
         let room = self.versions.room_for(t.own_writes());
         first_of(judged, room, self.commits)
+    }
+
+    // Puts this into the slot.
+    fn put(&mut self, slot: u32, s: Slot)
+        ensures { λ _. ⌜ Puts slot (runOf s) (now (self .entry)) (now (self .exit)) ⌝ }
+    {
+        if slot < SLOTS {
+            self.slots[slot as usize] = s;
+        }
+    }
+
+    fn begin(&mut self, slot: u32, level: Option<Level>)
+        ensures { λ _. ⌜ Performs (Begin slot level) (now (self .entry)) (now (self .exit)) ⌝ }
+    {
+        if let Some(level) = level {
+            let t = Transaction::started(level, self.commits);
+            self.put(slot, Slot::Active(t));
+        }
+    }
+
+    fn write(&mut self, slot: u32, key: u32, value: u32)
+        ensures { λ _. ⌜ Performs (Write slot key value) (now (self .entry)) (now (self .exit)) ⌝ }
+    {
+        let (s, _) = self.slot(slot).written(Entry { key, value });
+        self.put(slot, s);
+    }
+
+    // Forgets what the check at commit needs no more.
+    fn forget(&mut self)
+        ensures { λ _. ⌜ Keeps (now (self .entry)) (now (self .exit)) ⌝ }
+    {
+        let floor = self.floor(false);
+        self.window.forget(floor);
+    }
+
+    fn abort(&mut self, slot: u32)
+        ensures { λ _. ⌜ Performs (Abort slot) (now (self .entry)) (now (self .exit)) ⌝ }
+    {
+        self.put(slot, Slot::Idle);
+        self.forget();
+    }
+
+    fn sweep(&mut self)
+        ensures { λ _. ⌜ Performs Sweep (now (self .entry)) (now (self .exit)) ⌝ }
+    {
+        let floor = self.floor(true);
+        self.versions.sweep(floor);
+    }
+
+    // Drops what is under way and all versions but the last of each key.
+    fn restart(&mut self)
+        ensures { λ _. ⌜ Performs Stop (now (self .entry)) (now (self .exit)) ⌝ }
+    {
+        let commits = self.commits;
+        self.versions.sweep(commits);
+        self.window.forget(commits);
+        self.slots = [Slot::Idle; 16];
+    }
+
+    fn counts(&self) -> Counts
+        ensures { λ r. ⌜ Counted (now (self .entry)) r ⌝ }
+    {
+        let versions = self.versions.count();
+        Counts { commits: self.commits, versions, busy: self.busy() }
+    }
+
+    // What the transaction finds in the range when the first `at` commits are done.
+    fn found(&self, t: &Transaction, at: u32, from: u32, to: u32) -> Result<Vec<Entry>, AllocError>
+        ensures { λ r. ⌜ made r (λ v. Finds (modelOf (now (t .entry))) at from to (now (self .entry)) (vec-items v)) ⌝ }
+    {
+        let mut entries = Vec::new(self.heap);
+        for key in from..to {
+            let value = self.stands(t, at, key);
+            if value > 0 {
+                entries.push(Entry { key, value })?;
+            }
+        }
+        Ok(entries)
+    }
+
+    // What stands at the key for the transaction: its own last write of it, or what the first `at` commits left.
+    fn stands(&self, t: &Transaction, at: u32, key: u32) -> u32
+        ensures { λ r. ⌜ StandsAt (modelOf (now (t .entry))) at key (now (self .entry)) r ⌝ }
+    {
+        match t.own(key) {
+            Some(value) => value,
+            None => self.versions.shown(key, at),
+        }
+    }
+
+    fn read(&mut self, slot: u32, from: u32, to: u32) -> Answer
+        ensures { λ r. ⌜ PerformsOr (Read slot from to) (now (self .entry)) (now (self .exit)) r ⌝ }
+    {
+        match self.slot(slot) {
+            Slot::Idle => Answer::Refused(Refusal::SlotState),
+            Slot::Active(t) => self.read_by(slot, t, from, to),
+        }
+    }
+
+    fn read_by(&mut self, slot: u32, t: Transaction, from: u32, to: u32) -> Answer
+        ensures { λ r. ⌜ ReadsBy slot (modelOf t) from to (now (self .entry)) (now (self .exit)) r ⌝ }
+    {
+        let at = t.moment(self.commits);
+        match self.found(&t, at, from, to) {
+            Err(_) => Answer::Refused(Refusal::NoMemory),
+            Ok(entries) => {
+                let (s, _) = Slot::Active(t).read(from, to, at);
+                self.put(slot, s);
+                Answer::Found(entries)
+            }
+        }
+    }
+
+    fn commit(&mut self, slot: u32) -> Answer
+        ensures { λ r. ⌜ PerformsOr (Commit slot) (now (self .entry)) (now (self .exit)) r ⌝ }
+    {
+        match self.slot(slot) {
+            Slot::Idle => Answer::Refused(Refusal::SlotState),
+            Slot::Active(t) => self.commit_by(slot, &t),
+        }
+    }
+
+    fn commit_by(&mut self, slot: u32, t: &Transaction) -> Answer
+        ensures { λ r. ⌜ CommitsBy slot (modelOf (now (t .entry))) (now (self .entry)) (now (self .exit)) r ⌝ }
+    {
+        let number = self.commits;
+        match self.enter(t) {
+            Err(refusal) => Answer::Refused(refusal),
+            Ok(()) => {
+                self.put(slot, Slot::Idle);
+                self.forget();
+                Answer::Committed(number)
+            }
+        }
+    }
+
+    // Enters the transaction among the commits.
+    fn enter(&mut self, t: &Transaction) -> Result<(), Refusal>
+        ensures { λ r. ⌜ Enters (modelOf (now (t .entry))) (now (self .entry)) (now (self .exit)) r ⌝ }
+    {
+        let number = self.commits;
+        if !self.versions.room_for(t.own_writes()) {
+            return Err(Refusal::NoRoom);
+        }
+        if number == u32::MAX {
+            return Err(Refusal::LastCommit);
+        }
+        if let Err(refusal) = self.window.take_in(t, number) {
+            return Err(refusal);
+        }
+        if let Err(refusal) = self.versions.commit(number, t.own_writes()) {
+            return Err(refusal);
+        }
+        self.commits = number + 1;
+        Ok(())
+    }
+
+    // Does a call that is not refused.
+    pub fn perform(&mut self, call: Call) -> Answer
+        ensures { λ r. ⌜ PerformsOr call (now (self .entry)) (now (self .exit)) r ⌝ }
+    {
+        match call {
+            Call::Begin { slot, level } => {
+                self.begin(slot, level);
+                Answer::Done
+            }
+            Call::Read { slot, from, to } => self.read(slot, from, to),
+            Call::Write { slot, key, value } => {
+                self.write(slot, key, value);
+                Answer::Done
+            }
+            Call::Commit { slot } => self.commit(slot),
+            Call::Abort { slot } => {
+                self.abort(slot);
+                Answer::Done
+            }
+            Call::Sweep => {
+                self.sweep();
+                Answer::Done
+            }
+            Call::Sync => Answer::Done,
+            Call::Stop => {
+                self.restart();
+                Answer::Done
+            }
+            Call::Show => Answer::Shown(self.counts()),
+        }
     }
 }

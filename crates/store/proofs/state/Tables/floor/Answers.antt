@@ -1,8 +1,6 @@
-use mathlib.Core.Path.{sym, _∙_, ap}
+use mathlib.Core.Path.{sym, _∙_}
 use native.Mathlib.Omega.{arith}
-use Rattle.transactions.specs.declared.slot.Slot.{Slot}
-use Rattle.transactions.specs.Slots.{runOf}
-use Rattle.store.specs.Fits.{counts, lowerRun}
+use Rattle.store.specs.Fits.{counts}
 use Rattle.store.proofs.Runs.{floor-more, floor-all}
 use Rattle.store.proofs.state.Tables.floor.Needs as need
 
@@ -11,7 +9,7 @@ loop-slot-again c =
     c .loop-slot .inv
     ∙ floor-more (counts (c .args .snapshots)) (c .loop-slot .floor) (c .lower-floor .result) (c .args .self .now .slots) (c .loop-slot .slot-index) (c .slot-item .result)
       (omega (arith, c .loop-slot-test .taken, c .args .self .now .all))
-      (c .lower-floor .ensures ∙ ap (λ (x : Slot). lowerRun (counts (c .args .snapshots)) (c .loop-slot .floor) (runOf x)) (c .slot-item .is))
+      (c .lower-floor .ensures)
 
 pub returns : need.returns
 returns c =
