@@ -85,12 +85,11 @@ impl Window {
         ensures marks { λ _. ⌜ marksOf (now (self .exit)) ≡ from floor (marksOf (now (self .entry))) ⌝ }
         ensures rules { λ _. ⌜ Forgot (now (self .entry)) (now (self .exit)) floor ⌝ }
     {
-        let n = self.all.len();
-        let mut gone = 0;
-        while gone < n && self.all[gone].number < floor {
-            gone += 1;
+        let gone = front_below(&self.all, floor);
+        if gone > 0 {
+            let left = self.all.len() - gone;
+            self.all.rotate_left(gone);
+            self.all.truncate(left);
         }
-        self.all.rotate_left(gone);
-        self.all.truncate(n - gone);
     }
 }
