@@ -5,7 +5,7 @@ ghost use lib.ListN.{length, drop};
 ghost use Rattle.std.specs.Vec.{made};
 ghost use Rattle.model.specs.Lists.{any};
 ghost use Rattle.transactions.specs.Transactions.{modelOf};
-ghost use Rattle.conflicts.specs.Marks.{lowest, since, markOf, markNumber, isPassed, isPassing, turns, wouldPivot, remarked, newMark, from};
+ghost use Rattle.conflicts.specs.Marks.{lowest, since, markOf, markNumber, isPassed, isPassing, turns, wouldPivot, remarked, newMark, fromFloor};
 use super::*;
 use model::*;
 use std::alloc::AllocError;
@@ -103,7 +103,7 @@ pub fn pivot_with(t: &Transaction, all: &[Committed]) -> bool
 // How many at the front have a number below the floor.
 pub fn front_below(all: &[Committed], floor: u32) -> usize
     ensures within { λ r. ⌜ r ≤ length (now (all .entry)) ⌝ }
-    ensures rest { λ r. ⌜ from floor (map markOf (now (all .entry))) ≡ map markOf (drop r (now (all .entry))) ⌝ }
+    ensures rest { λ r. ⌜ fromFloor floor (map markOf (now (all .entry))) ≡ map markOf (drop r (now (all .entry))) ⌝ }
 {
     for i in 0..all.len() {
         if all[i].number >= floor {

@@ -6,14 +6,14 @@ use lib.ListN.{length, take, drop}
 use Rattle.std.specs.Of.Vec.{vec-items}
 use Rattle.conflicts.specs.declared.window.Committed.{Committed}
 use Rattle.conflicts.specs.declared.window.Window.{Window}
-use Rattle.conflicts.specs.Marks.{markOf, marksOf, from}
+use Rattle.conflicts.specs.Marks.{markOf, marksOf, fromFloor}
 use Rattle.conflicts.proofs.Loops.{cut-front}
 use Rattle.conflicts.proofs.Rules.{forgot-by-marks}
 use Rattle.conflicts.proofs.window.Window.forget.Needs as need
 
 -- v is w without its first i
-without : (w v : Window) (floor i : ℕ) (ys : List Committed) → ys ≡ vec-items (w .all) → from floor (map markOf ys) ≡ map markOf (drop i ys) → vec-items (v .all) ≡ drop i (vec-items (w .all)) → marksOf v ≡ from floor (marksOf w)
-without w v floor i ys e r a = ap (map markOf) a ∙ sym (ap (λ l. map markOf (drop i l)) e) ∙ sym r ∙ ap (λ l. from floor (map markOf l)) e
+without : (w v : Window) (floor i : ℕ) (ys : List Committed) → ys ≡ vec-items (w .all) → fromFloor floor (map markOf ys) ≡ map markOf (drop i ys) → vec-items (v .all) ≡ drop i (vec-items (w .all)) → marksOf v ≡ fromFloor floor (marksOf w)
+without w v floor i ys e r a = ap (map markOf) a ∙ sym (ap (λ l. map markOf (drop i l)) e) ∙ sym r ∙ ap (λ l. fromFloor floor (map markOf l)) e
 
 pub returns-then-gone-gt0 : need.returns-then-gone-gt0
 returns-then-gone-gt0 c =
