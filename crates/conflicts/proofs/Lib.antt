@@ -7,3 +7,4 @@ pub mod Marked
 pub mod Forgetting
 pub mod Rules
 pub mod Allowing
+pub mod Lowering

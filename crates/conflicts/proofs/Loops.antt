@@ -12,7 +12,7 @@ use Rattle.std.proofs.shelf.Tests.{lt-ltb, le-ltb}
 use Rattle.std.specs.declared.option.Option.{Option}
 use Rattle.std.specs.declared.option.Option.the-variants.{Some, None}
 use Rattle.transactions.proofs.Places.{found-at}
-use Rattle.conflicts.specs.Marks.{Mark, lowest, from}
+use Rattle.conflicts.specs.Marks.{Mark, lowest, fromFloor}
 
 -- a loop that stops at the first that passes a test
 module _ {X Y : Type 0} (num : Y → ℕ) (p : Y → Bool) (f : X → Y) (xs : List X) (i : ℕ) where
@@ -49,29 +49,29 @@ module _ {X Y : Type 0} (f : X → Y) (g : Y → Y) (xs ys : List X) (i : ℕ) (
       let d = append-nil (map g (map f xs)) in cc
 
 -- a loop that passes over those below the floor
-module _ {X : Type 0} (h : X → Mark) (f : ℕ) (xs : List X) (i : ℕ) (inv : from f (map h xs) ≡ from f (drop i (map h xs))) where
-  from-more : (x a : X) → i < length xs → x ≡ getD xs i a → from f (map h xs) ≡ cond (ltb (h x .number) f) (from f (drop (i + 1) (map h xs))) (h x ∷ drop (i + 1) (map h xs))
-  unfolding from
+module _ {X : Type 0} (h : X → Mark) (f : ℕ) (xs : List X) (i : ℕ) (inv : fromFloor f (map h xs) ≡ fromFloor f (drop i (map h xs))) where
+  from-more : (x a : X) → i < length xs → x ≡ getD xs i a → fromFloor f (map h xs) ≡ cond (ltb (h x .number) f) (fromFloor f (drop (i + 1) (map h xs))) (h x ∷ drop (i + 1) (map h xs))
+  unfolding fromFloor
   from-more x a l e =
       let l′ : i < length (map h xs) = rw length-map l in
-      inv ∙ at-drop-more (from f) (map h xs) i (h x) l′
-      ∙ ap (λ (y : Mark). cond (ltb (y .number) f) (from f (drop (i + 1) (map h xs))) (y ∷ drop (i + 1) (map h xs))) (found-at h xs i x a l e (h x))
+      inv ∙ at-drop-more (fromFloor f) (map h xs) i (h x) l′
+      ∙ ap (λ (y : Mark). cond (ltb (y .number) f) (fromFloor f (drop (i + 1) (map h xs))) (y ∷ drop (i + 1) (map h xs))) (found-at h xs i x a l e (h x))
 
-  pub from-on : (x a : X) → i < length xs → x ≡ getD xs i a → h x .number < f → from f (map h xs) ≡ from f (drop (i + 1) (map h xs))
-  from-on x a l e b = from-more x a l e ∙ ap (λ z. cond z (from f (drop (i + 1) (map h xs))) (h x ∷ drop (i + 1) (map h xs))) (lt-ltb (h x .number) f b)
+  pub from-on : (x a : X) → i < length xs → x ≡ getD xs i a → h x .number < f → fromFloor f (map h xs) ≡ fromFloor f (drop (i + 1) (map h xs))
+  from-on x a l e b = from-more x a l e ∙ ap (λ z. cond z (fromFloor f (drop (i + 1) (map h xs))) (h x ∷ drop (i + 1) (map h xs))) (lt-ltb (h x .number) f b)
 
-  pub from-here : (x a : X) → i < length xs → x ≡ getD xs i a → f ≤ h x .number → from f (map h xs) ≡ map h (drop i xs)
+  pub from-here : (x a : X) → i < length xs → x ≡ getD xs i a → f ≤ h x .number → fromFloor f (map h xs) ≡ map h (drop i xs)
   from-here x a l e b =
       let l′ : i < length (map h xs) = rw length-map l in
-      from-more x a l e ∙ ap (λ z. cond z (from f (drop (i + 1) (map h xs))) (h x ∷ drop (i + 1) (map h xs))) (le-ltb (h x .number) f b)
+      from-more x a l e ∙ ap (λ z. cond z (fromFloor f (drop (i + 1) (map h xs))) (h x ∷ drop (i + 1) (map h xs))) (le-ltb (h x .number) f b)
       ∙ sym (at-drop-more (λ l. l) (map h xs) i (h x) l′ ∙ ap (λ y. y ∷ drop (i + 1) (map h xs)) (found-at h xs i x a l e (h x)))
       ∙ drop-map h i xs
 
-  pub from-all : length xs ≤ i → from f (map h xs) ≡ map h (drop i xs)
-  unfolding from
+  pub from-all : length xs ≤ i → fromFloor f (map h xs) ≡ map h (drop i xs)
+  unfolding fromFloor
   from-all l =
       let m : length (map h xs) ≤ i = rw length-map l in
-      inv ∙ at-drop-all (from f) (map h xs) i m ∙ sym (ap (map h) (drop-all i xs l))
+      inv ∙ at-drop-all (fromFloor f) (map h xs) i m ∙ sym (ap (map h) (drop-all i xs l))
 
 -- turned to the left by i and cut behind, the first i are gone
 pub cut-front : {X : Type 0} (xs : List X) (i : ℕ) → take (length xs - i) (drop i xs ++ take i xs) ≡ drop i xs

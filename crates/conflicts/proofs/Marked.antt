@@ -21,9 +21,9 @@ use Rattle.conflicts.proofs.Firsts.{any-push, lowest-push, some-lowest, kept-p
 use Rattle.conflicts.proofs.Numbers.{commit, commits-push, Before, before-all}
 use Rattle.conflicts.proofs.Passing.{serial, of-earlier, of-later, not-serial, other-not-serial, saw, was-seen, myself}
 
--- the two tests that a mark is made of
-abbrev from′ : Commit → Commit → Bool
-from′ a d = passes d a
+-- d passes a
+abbrev passer : Commit → Commit → Bool
+passer a d = passes d a
 
 -- a test that d fails finds none more in it
 lowest-as-was : (p : Commit → Bool) (ds : List Commit) (d : Commit) → p d ≡ false → lowest commitNumber p (ds ++ (d ∷ [])) ≡ lowest commitNumber p ds
@@ -63,16 +63,16 @@ module _ (n : ℕ) (t : Txn) (b : t .begin ≤ n) (s : isSerial (t .level) ≡ t
     out-now = lowest-as-was (passes d) ds d (myself d)
         ∙ lowest-kept (recent f) (Before n) (markAmong ds) (passes d) (isPassed t) (λ a h e. passed ds a h (is-serial a e)) (λ a h e. not-passed a e) commitNumber markNumber (λ _. refl) ds h
 
-    into-now : lowest commitNumber (from′ d) more ≡ lowest markNumber (isPassing t) (heldOf f ds)
-    into-now = lowest-as-was (from′ d) ds d (myself d)
-        ∙ lowest-kept (recent f) (Before n) (markAmong ds) (from′ d) (isPassing t) (λ a h e. passing ds a h (is-serial a e)) (λ a h e. not-passing a e) commitNumber markNumber (λ _. refl) ds h
+    into-now : lowest commitNumber (passer d) more ≡ lowest markNumber (isPassing t) (heldOf f ds)
+    into-now = lowest-as-was (passer d) ds d (myself d)
+        ∙ lowest-kept (recent f) (Before n) (markAmong ds) (passer d) (isPassing t) (λ a h e. passing ds a h (is-serial a e)) (λ a h e. not-passing a e) commitNumber markNumber (λ _. refl) ds h
 
     remark-one : (a : Commit) → Before n a → recent f a ≡ true → markAmong more a ≡ remarked t n (markAmong ds a)
     remark-one a h e =
         let o : lowest commitNumber (passes a) more ≡ since (lowest commitNumber (passes a) ds) (isPassing t (markAmong ds a)) n =
         lowest-push commitNumber (passes a) ds d ∙ ap (λ z. since (lowest commitNumber (passes a) ds) z n) (passing ds a h (is-serial a e)) in
-        let i : lowest commitNumber (from′ a) more ≡ since (lowest commitNumber (from′ a) ds) (isPassed t (markAmong ds a)) n =
-        lowest-push commitNumber (from′ a) ds d ∙ ap (λ z. since (lowest commitNumber (from′ a) ds) z n) (passed ds a h (is-serial a e)) in
+        let i : lowest commitNumber (passer a) more ≡ since (lowest commitNumber (passer a) ds) (isPassed t (markAmong ds a)) n =
+        lowest-push commitNumber (passer a) ds d ∙ ap (λ z. since (lowest commitNumber (passer a) ds) z n) (passed ds a h (is-serial a e)) in
         cc
 
     pub held-serial : heldOf f more ≡ takenIn t n (heldOf f ds)
@@ -92,25 +92,25 @@ module _ (n : ℕ) (t : Txn) (b : t .begin ≤ n) (s : isSerial (t .level) ≡ t
     turns-into : (a : Commit) → Free a → recent f a ≡ true → isPivot more a ≡ turns t (markAmong ds a)
     turns-into a h e =
         let o = any (passes a) ds in
-        let i = any (from′ a) ds in
+        let i = any (passer a) ds in
         let c = isPassing t (markAmong ds a) in
         let g = isPassed t (markAmong ds a) in
-        ap (λ z. z && any (from′ a) more) (any-push (passes a) ds d ∙ ap (λ z. o || z) (passing ds a (h .0) (is-serial a e)))
-        ∙ ap (λ z. (o || c) && z) (any-push (from′ a) ds d ∙ ap (λ z. i || z) (passed ds a (h .0) (is-serial a e)))
+        ap (λ z. z && any (passer a) more) (any-push (passes a) ds d ∙ ap (λ z. o || z) (passing ds a (h .0) (is-serial a e)))
+        ∙ ap (λ z. (o || c) && z) (any-push (passer a) ds d ∙ ap (λ z. i || z) (passed ds a (h .0) (is-serial a e)))
         ∙ turned o i c g (h .1)
         ∙ ap (λ z. (g && (z || c)) || (c && i)) (sym (some-lowest commitNumber (passes a) ds))
-        ∙ ap (λ z. (g && (isSome (lowest commitNumber (passes a) ds) || c)) || (c && z)) (sym (some-lowest commitNumber (from′ a) ds))
+        ∙ ap (λ z. (g && (isSome (lowest commitNumber (passes a) ds) || c)) || (c && z)) (sym (some-lowest commitNumber (passer a) ds))
 
     stays : (a : Commit) → Free a → recent f a ≡ false → isPivot more a ≡ false
     stays a h e =
-        ap (λ z. z && any (from′ a) more) (any-as-was (passes a) ds d (not-passing a e)) ∙ ap (λ z. any (passes a) ds && z) (any-as-was (from′ a) ds d (not-passed a e)) ∙ h .1
+        ap (λ z. z && any (passer a) more) (any-as-was (passes a) ds d (not-passing a e)) ∙ ap (λ z. any (passes a) ds && z) (any-as-was (passer a) ds d (not-passed a e)) ∙ h .1
 
     pub pivot-told : any (isPivot ds) ds ≡ false → any (isPivot more) more ≡ wouldPivot t (heldOf f ds)
     pivot-told z =
         any-push (isPivot more) ds d
         ∙ ap (λ y. y || isPivot more d) (any-kept (recent f) Free (markAmong ds) (isPivot more) (turns t) turns-into stays ds (all-both (Before n) (λ a. isPivot ds a ≡ false) ds h (none-passes (isPivot ds) ds z)))
-        ∙ ap (λ y. any (turns t) (heldOf f ds) || (y && any (from′ d) more)) (sym (some-lowest commitNumber (passes d) more) ∙ ap isSome out-now)
-        ∙ ap (λ y. any (turns t) (heldOf f ds) || (isSome (lowest markNumber (isPassed t) (heldOf f ds)) && y)) (sym (some-lowest commitNumber (from′ d) more) ∙ ap isSome into-now)
+        ∙ ap (λ y. any (turns t) (heldOf f ds) || (y && any (passer d) more)) (sym (some-lowest commitNumber (passes d) more) ∙ ap isSome out-now)
+        ∙ ap (λ y. any (turns t) (heldOf f ds) || (isSome (lowest markNumber (isPassed t) (heldOf f ds)) && y)) (sym (some-lowest commitNumber (passer d) more) ∙ ap isSome into-now)
 
 -- t of another level
 module _ (n : ℕ) (t : Txn) (s : isSerial (t .level) ≡ false) (ds : List Commit) (h : All (Before n) ds) where
@@ -133,14 +133,14 @@ module _ (n : ℕ) (t : Txn) (s : isSerial (t .level) ≡ false) (ds : List Comm
       ∙ map-kept (recent f) (Before n) (markAmong more′) (markAmong ds)
       (λ a h e.
       let o = lowest-as-was (passes a) ds d′ (out-no a) in
-      let i = lowest-as-was (from′ a) ds d′ (into-no a) in
+      let i = lowest-as-was (passer a) ds d′ (into-no a) in
       cc) ds h
 
   pub pivots-other : any (isPivot more′) more′ ≡ any (isPivot ds) ds
   pivots-other =
-      let m : isPivot more′ d′ ≡ false = ap (λ z. z && any (from′ d′) more′) (any-as-was (passes d′) ds d′ (into-no d′) ∙ nobody) in
+      let m : isPivot more′ d′ ≡ false = ap (λ z. z && any (passer d′) more′) (any-as-was (passes d′) ds d′ (into-no d′) ∙ nobody) in
       any-as-was (isPivot more′) ds d′ m
-      ∙ any-same (Before n) (isPivot more′) (isPivot ds) (λ a h. ap (λ z. z && any (from′ a) more′) (any-as-was (passes a) ds d′ (out-no a)) ∙ ap (λ z. any (passes a) ds && z) (any-as-was (from′ a) ds d′ (into-no a))) ds h
+      ∙ any-same (Before n) (isPivot more′) (isPivot ds) (λ a h. ap (λ z. z && any (passer a) more′) (any-as-was (passes a) ds d′ (out-no a)) ∙ ap (λ z. any (passes a) ds && z) (any-as-was (passer a) ds d′ (into-no a))) ds h
     where
       nobody : any (passes d′) ds ≡ false
       nobody = any-nobody (passes d′) into-no ds

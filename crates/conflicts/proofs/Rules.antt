@@ -7,7 +7,7 @@ use lib.ListN.{length}
 use Rattle.model.specs.Transactions.{Txn, isSerial}
 use Rattle.model.specs.Commits.{commits}
 use Rattle.conflicts.specs.declared.window.Window.{Window}
-use Rattle.conflicts.specs.Marks.{marksOf, wouldPivot, from, takenIn}
+use Rattle.conflicts.specs.Marks.{marksOf, wouldPivot, fromFloor, takenIn}
 use Rattle.conflicts.specs.Held.{heldOf, Holds, Next, PivotTold, Forgot}
 use Rattle.conflicts.proofs.Marked.{told, entered-serial, entered-other}
 use Rattle.conflicts.proofs.Forgetting.{forgets, nothing-held}
@@ -24,7 +24,7 @@ module _ (w v : Window) (t : Txn) (n : ℕ) where
   pub left-by-marks : isSerial (t .level) ≡ false → marksOf v ≡ marksOf w → (done : List Txn) (floor : ℕ) → n ≡ length done → Next done floor w t → Holds (done ++ (t ∷ [])) floor v
   left-by-marks s e done floor m k = e ∙ k .holds ∙ sym (entered-other done t floor (k .timely) s)
 
-pub forgot-by-marks : (w v : Window) (floor : ℕ) → marksOf v ≡ from floor (marksOf w) → Forgot w v floor
+pub forgot-by-marks : (w v : Window) (floor : ℕ) → marksOf v ≡ fromFloor floor (marksOf w) → Forgot w v floor
 forgot-by-marks w v floor e done f l h =
-    let a : Holds done floor v = e ∙ ap (from floor) h ∙ forgets done f floor l in
+    let a : Holds done floor v = e ∙ ap (fromFloor floor) h ∙ forgets done f floor l in
     (a, λ m. a ∙ nothing-held done floor m)

@@ -78,15 +78,16 @@ abbrev pub takenIn : Txn → ℕ → List Mark → List Mark
 takenIn t n ms = map (remarked t n) ms ++ (newMark t n ms ∷ [])
 
 -- those from the first on whose number is not below the floor
-unfoldable pub from : ℕ → List Mark → List Mark
-from f [] = []
-from f (m ∷ ms) = cond (ltb (m .number) f) (from f ms) (m ∷ ms)
+unfoldable pub fromFloor : ℕ → List Mark → List Mark
+fromFloor f [] = []
+fromFloor f (m ∷ ms) = cond (ltb (m .number) f) (fromFloor f ms) (m ∷ ms)
 
 -- ms became ns as t was taken in; where memory fails they are as before
 abbrev pub Taken : Txn → ℕ → List Mark → List Mark → {X Y : Type 0} → Result X Y → Type 0
 Taken t n ms ns (Ok x) = ns ≡ takenIn t n ms
 Taken t n ms ns (Err y) = ns ≡ ms
 
+-- the same of a transaction of any level: another than a Serial changes nothing and is never refused
 abbrev pub TakenIn : Txn → ℕ → List Mark → List Mark → {X : Type 0} → Result X Refusal → Type 0
 TakenIn t n ms ns (Ok x) = ns ≡ cond (isSerial (t .level)) (takenIn t n ms) ms
-TakenIn t n ms ns (Err y) = (y ≡ NoMemory) × (ns ≡ ms)
+TakenIn t n ms ns (Err y) = (isSerial (t .level) ≡ true) × (y ≡ NoMemory) × (ns ≡ ms)

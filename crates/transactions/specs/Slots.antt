@@ -1,5 +1,5 @@
 -- Slots, by what runs in each.
-use mathlib.Core.Bool.{cond}
+use mathlib.Core.Bool.{Bool, true, false, cond}
 use Prim.Native.Nat.{ℕ}
 use lib.Dec.{ltb}
 use lib.ListN.{length}
@@ -21,6 +21,10 @@ pub data Run : Type 0 where
 abbrev pub runOf : Slot → Run
 runOf Idle = idle
 runOf (Active t) = going (modelOf t)
+
+abbrev pub isGoing : Run → Bool
+isGoing idle = false
+isGoing (going t) = true
 
 -- what runs in a slot after a begin, a read, a write or an end there, and why it is refused, if it is
 abbrev pub begun : Level → ℕ → Run → Run

@@ -1,5 +1,5 @@
 ghost use mathlib.Core.Path.{_≡_};
-ghost use Rattle.transactions.specs.Slots.{idle, runOf, begun, beginRefused, read, readRefused, wrote, writeRefused, endRefused};
+ghost use Rattle.transactions.specs.Slots.{idle, runOf, begun, beginRefused, read, readRefused, wrote, writeRefused, endRefused, isGoing};
 use super::transaction::*;
 use model::*;
 
@@ -48,6 +48,16 @@ impl Slot {
                 Ok(u) => (Slot::Active(u), None),
                 Err(u) => (Slot::Active(u), Some(Refusal::TooMany)),
             },
+        }
+    }
+
+    // Whether a transaction runs in it.
+    pub fn is_busy(&self) -> bool
+        ensures { λ r. ⌜ r ≡ isGoing (runOf (now (self .entry))) ⌝ }
+    {
+        match *self {
+            Slot::Idle => false,
+            Slot::Active(_) => true,
         }
     }
 

@@ -1,7 +1,7 @@
 ghost use mathlib.Core.Path.{_≡_};
 ghost use mathlib.Core.List.{[]};
 ghost use Rattle.transactions.specs.Transactions.{modelOf};
-ghost use Rattle.conflicts.specs.Marks.{marksOf, wouldPivot, judged, from, Taken, TakenIn};
+ghost use Rattle.conflicts.specs.Marks.{marksOf, wouldPivot, judged, fromFloor, Taken, TakenIn};
 ghost use Rattle.conflicts.specs.Held.{Fresh, PivotTold, Entered, Forgot, VerdictTold};
 use super::marks::*;
 use super::*;
@@ -82,15 +82,14 @@ impl Window {
     // Forgets those whose number is below the floor, which is the lowest begin of the Serials under way, or the number of
     // commits done where there is none.
     pub fn forget(&mut self, floor: u32)
-        ensures marks { λ _. ⌜ marksOf (now (self .exit)) ≡ from floor (marksOf (now (self .entry))) ⌝ }
+        ensures marks { λ _. ⌜ marksOf (now (self .exit)) ≡ fromFloor floor (marksOf (now (self .entry))) ⌝ }
         ensures rules { λ _. ⌜ Forgot (now (self .entry)) (now (self .exit)) floor ⌝ }
     {
-        let n = self.all.len();
-        let mut gone = 0;
-        while gone < n && self.all[gone].number < floor {
-            gone += 1;
+        let gone = front_below(&self.all, floor);
+        if gone > 0 {
+            let left = self.all.len() - gone;
+            self.all.rotate_left(gone);
+            self.all.truncate(left);
         }
-        self.all.rotate_left(gone);
-        self.all.truncate(n - gone);
     }
 }

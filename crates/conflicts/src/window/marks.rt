@@ -1,9 +1,11 @@
 ghost use mathlib.Core.Path.{_≡_};
 ghost use mathlib.Core.List.{map};
+ghost use Prim.Native.Nat.{_≤_};
+ghost use lib.ListN.{length, drop};
 ghost use Rattle.std.specs.Vec.{made};
 ghost use Rattle.model.specs.Lists.{any};
 ghost use Rattle.transactions.specs.Transactions.{modelOf};
-ghost use Rattle.conflicts.specs.Marks.{lowest, since, markOf, markNumber, isPassed, isPassing, turns, wouldPivot, remarked, newMark};
+ghost use Rattle.conflicts.specs.Marks.{lowest, since, markOf, markNumber, isPassed, isPassing, turns, wouldPivot, remarked, newMark, fromFloor};
 use super::*;
 use model::*;
 use std::alloc::AllocError;
@@ -96,6 +98,19 @@ pub fn pivot_with(t: &Transaction, all: &[Committed]) -> bool
     ensures { λ r. ⌜ r ≡ wouldPivot (modelOf (now (t .entry))) (map markOf (now (all .entry))) ⌝ }
 {
     some_turns(t, all) || first_passed(t, all).is_some() && first_passing(t, all).is_some()
+}
+
+// How many at the front have a number below the floor.
+pub fn front_below(all: &[Committed], floor: u32) -> usize
+    ensures within { λ r. ⌜ r ≤ length (now (all .entry)) ⌝ }
+    ensures rest { λ r. ⌜ fromFloor floor (map markOf (now (all .entry))) ≡ map markOf (drop r (now (all .entry))) ⌝ }
+{
+    for i in 0..all.len() {
+        if all[i].number >= floor {
+            return i;
+        }
+    }
+    all.len()
 }
 
 // Notes with each that t has committed with this number.
