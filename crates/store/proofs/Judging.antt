@@ -6,7 +6,7 @@ use Prim.Native.Nat.{ℕ, _+_, _≤_, _<_}
 use native.Mathlib.Omega.{arith}
 use lib.Dec.{leb, ltb}
 use lib.ListN.{length, length-map}
-use borrow.Author.Tests.{le-ltb, lt-ltb, leb-true, leb-false}
+use borrow.Author.Tests.{le-ltb, lt-ltb, leb-true, leb-false, both-ways}
 use Rattle.std.specs.declared.option.Option.{Option}
 use Rattle.std.specs.declared.option.Option.the-variants.{Some, None}
 use Rattle.model.specs.declared.Entry.{Entry}
@@ -24,6 +24,7 @@ use Rattle.conflicts.specs.Held.{Next, VerdictTold}
 use Rattle.conflicts.proofs.Allowing.{allowed-timely, no-pivot}
 use Rattle.history.specs.Engine.{Life, Engine, txnOf, txns, count, slotAt, versionCount, when, firstOf, commitRefusal}
 use Rattle.history.specs.Sound.{Sound}
+use Rattle.history.proofs.Refusing.{neither, when-not}
 use Rattle.store.specs.Fits.{Fits}
 
 pub then : {X : Type 0} {a b c : X} → a ≡ b → b ≡ c → a ≡ c
@@ -70,3 +71,25 @@ judged-of e snd v w ss n fit i l here t at es fs p₁ p₂ conflict room r q p m
     (subst (λ (x : Txn). ConflictBy v (x .writes) (x .begin) conflict) at (subst (λ (x : List Entry). ConflictBy v x (t .begin) conflict) p₁ q))
     (subst (λ (x : Txn). VerdictTold w x conflict r) at p)
     (subst (λ (x : Txn). RoomBy v (x .writes) room) at (subst (λ (x : List Entry). RoomBy v x room) p₂ m))
+
+-- a commit that is not refused has room and a number
+commit-fits : (e : Engine) (l : Life) → commitRefusal e l ≡ None → (ltb 32768 (versionCount e + keysOf (l .txn .writes)) ≡ false) × (leb 4294967295 (count e) ≡ false)
+commit-fits e l p =
+    let q = neither (verdict (l .txn) (txns e)) _ p .1 in
+    let r = neither (when (ltb 32768 (versionCount e + keysOf (l .txn .writes))) NoRoom) _ q in
+    (when-not _ NoRoom (r .0), when-not _ LastCommit (r .1))
+
+room-of : (e : Engine) → Sound e → (v : Versions) (w : Window) (ss : List Slot) (n : ℕ) → Fits e v w ss n → (i : ℕ) (l : Life) → slotAt i e ≡ Some l →
+    (es : List Entry) → es ≡ l .txn .writes → (q : Bool) → RoomBy v es q → not q ≡ ltb 32768 (versionCount e + keysOf (l .txn .writes))
+room-of e snd v w ss n fit i l here es p q m = room-told e snd v w ss n fit i l here q (subst (λ (x : List Entry). RoomBy v x q) p m)
+
+pub never-full : (e : Engine) → Sound e → (v : Versions) (w : Window) (ss : List Slot) (n : ℕ) → Fits e v w ss n → (i : ℕ) (l : Life) → slotAt i e ≡ Some l →
+    (es : List Entry) → es ≡ l .txn .writes → (q : Bool) → RoomBy v es q → q ≡ false → commitRefusal e l ≡ None → ⊥
+never-full e snd v w ss n fit i l here es p q m z free =
+    both-ways true (sym (ap not z) ∙ room-of e snd v w ss n fit i l here es p q m ∙ commit-fits e l free .0) refl
+
+pub never-last : (e : Engine) (v : Versions) (w : Window) (ss : List Slot) (n : ℕ) → Fits e v w ss n → (l : Life) → n ≡ 4294967295 → commitRefusal e l ≡ None → ⊥
+never-last e v w ss n fit l z free =
+    let k : n ≡ count e = fit .number in
+    let h = leb-false 4294967295 (count e) (commit-fits e l free .1) in
+    omega arith
