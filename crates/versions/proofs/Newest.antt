@@ -2,11 +2,12 @@
 use mathlib.Core.Path.{_≡_, refl, sym, ap, _∙_}
 use mathlib.Core.Bool.{Bool, true, false, cond, _&&_, _||_}
 use mathlib.Core.List.{List, [], _∷_}
-use Prim.Native.Nat.{ℕ, suc, _<_, _≤_}
+use Prim.Native.Nat.{ℕ, suc, _+_, _<_, _≤_}
 use native.Mathlib.Omega.{arith}
-use lib.Dec.{leb}
+use lib.Dec.{leb, ltb}
+use lib.ListN.{length}
 use Rattle.std.proofs.shelf.Ways.{tells}
-use Rattle.std.proofs.shelf.Tests.{or-parts, leb-false}
+use Rattle.std.proofs.shelf.Tests.{or-parts, leb-false, lt-ltb}
 use Rattle.model.specs.declared.Entry.{Entry}
 use Rattle.model.specs.Lists.{any}
 use Rattle.model.specs.Transactions.{Txn, empty, puts, names, bothWrite}
@@ -32,6 +33,21 @@ below-committed es k n vs h = go (names k es) vs h
     go true vs h = omega arith
     go false [] h = tt
     go false (v ∷ vs) h = omega arith
+
+below-from : (ts : List Txn) (k n m : ℕ) (vs : List Version) → Below n vs → m ≡ n + length ts → Below m (versionsFrom k n vs ts)
+unfolding versionsFrom
+below-from [] k n m [] h e = tt
+below-from [] k n m (v ∷ vs) h e = omega arith
+below-from (t ∷ ts) k n m vs h e = below-from ts k (suc n) m (committed n (t .writes) k vs) (below-committed (t .writes) k n vs h) (omega arith)
+
+-- where the newest is below the floor, it alone stays
+swept-one : (vs : List Version) (n f : ℕ) → Below n vs → n ≤ f → length (swept f vs) ≤ 1
+unfolding swept
+swept-one [] n f h l = omega arith
+swept-one (v ∷ vs) n f h l = let e : ltb (v .number) f ≡ true = lt-ltb (v .number) f (omega arith) in rw e (omega arith)
+
+pub one-stays : (done : List Txn) (k f : ℕ) → length done ≤ f → length (swept f (versions k done)) ≤ 1
+one-stays done k f l = swept-one (versions k done) (length done) f (below-from done k 0 (length done) [] tt (omega arith)) l
 
 newer-committed : (b : ℕ) (es : List Entry) (k n : ℕ) (vs : List Version) → Below n vs → newer b (committed n es k vs) ≡ ((leb b n && names k es) || newer b vs)
 newer-committed b es k n vs h = go (names k es) (leb b n) refl vs h

@@ -55,9 +55,18 @@ unfolding sumTo
 sum-none zero = refl
 sum-none (suc n) = let a : sumTo n (λ k. 0) ≡ 0 = sum-none n in omega arith
 
-pub total-same : (f g : ℕ → List Version) → ((k : ℕ) → f k ≡ g k) → total f ≡ total g
+pub total-same : (f g : ℕ → List Version) → ((k : ℕ) → k < 4096 → f k ≡ g k) → total f ≡ total g
 unfolding total
-total-same f g h = sum-same 4096 (λ k. length (f k)) (λ k. length (g k)) (λ k l. ap length (h k))
+total-same f g h = sum-same 4096 (λ k. length (f k)) (λ k. length (g k)) (λ k l. ap length (h k l))
+
+sum-ones : (n : ℕ) → sumTo n (λ k. 1) ≡ n
+unfolding sumTo
+sum-ones zero = refl
+sum-ones (suc n) = let a : sumTo n (λ k. 1) ≡ n = sum-ones n in omega arith
+
+pub total-few : (f : ℕ → List Version) → ((k : ℕ) → k < 4096 → length (f k) ≤ 1) → total f ≤ 4096
+unfolding total
+total-few f h = let a : sumTo 4096 (λ k. length (f k)) ≤ sumTo 4096 (λ k. 1) = sum-le 4096 (λ k. length (f k)) (λ k. 1) h in omega (arith, sum-ones 4096)
 
 pub total-none : (f : ℕ → List Version) → ((k : ℕ) → f k ≡ []) → total f ≡ 0
 unfolding total

@@ -2,7 +2,8 @@
 use mathlib.Core.Path.{_≡_}
 use mathlib.Core.Bool.{Bool, false}
 use mathlib.Core.List.{List, [], _∷_, _++_}
-use Prim.Native.Nat.{ℕ, _<_, _≤_}
+use Prim.Native.Nat.{ℕ, _+_, _<_, _≤_}
+use lib.Dec.{leb}
 use lib.ListN.{length, take}
 use Rattle.std.specs.declared.result.Result.{Result}
 use Rattle.std.specs.declared.result.Result.the-variants.{Ok, Err}
@@ -10,10 +11,11 @@ use Rattle.model.specs.declared.Entry.{Entry}
 use Rattle.model.specs.declared.Refusal.{Refusal}
 use Rattle.model.specs.Transactions.{Txn, empty, after}
 use Rattle.model.specs.Commits.{wroteSince}
-use Rattle.model.specs.Versions.{versions, swept}
+use Rattle.model.specs.Versions.{versions, swept, keysOf}
 use Rattle.versions.specs.declared.store.Versions.{Versions}
 use Rattle.versions.specs.Writes.{outside}
-use Rattle.versions.specs.Store.{held}
+use Rattle.versions.specs.Chain.{total}
+use Rattle.versions.specs.Store.{held, size, spaces}
 use Rattle.versions.specs.Laws.{writtenSince}
 
 -- the store holds the versions that the commits left, swept at the floor
@@ -30,6 +32,16 @@ NewerBy v k begin r = (done : List Txn) (floor : ℕ) → Holds done floor v →
 abbrev pub ConflictBy : Versions → List Entry → ℕ → Bool → Type 0
 ConflictBy v es begin r = (done : List Txn) (floor : ℕ) → Holds done floor v → outside es ≡ false → r ≡ wroteSince begin es done
 
+-- how many versions the commits left, swept at the floor
+abbrev pub sizeBy : List Txn → ℕ → ℕ
+sizeBy done floor = total (λ k. swept floor (versions k done))
+
+abbrev pub CountBy : Versions → ℕ → Type 0
+CountBy v r = (done : List Txn) (floor : ℕ) → Holds done floor v → r ≡ sizeBy done floor
+
+abbrev pub RoomBy : Versions → List Entry → Bool → Type 0
+RoomBy v es r = (done : List Txn) (floor : ℕ) → Holds done floor v → r ≡ leb (sizeBy done floor + keysOf es) (spaces v)
+
 -- the next commit is one more in the history; a refused one leaves it
 abbrev pub CommitBy : {A : Type 0} → ℕ → List Entry → Versions → Versions → Result A Refusal → Type 0
 CommitBy n es v w (Ok u) =
@@ -38,3 +50,7 @@ CommitBy n es v w (Err y) = (done : List Txn) (floor : ℕ) → Holds done floor
 
 abbrev pub SweepBy : ℕ → Versions → Versions → Type 0
 SweepBy f v w = (done : List Txn) (floor : ℕ) → Holds done floor v → floor ≤ f → Holds done f w
+
+-- a sweep at the number of commits done leaves one version a key at most
+abbrev pub FewBy : ℕ → Versions → Versions → Type 0
+FewBy f v w = (done : List Txn) (floor : ℕ) → Holds done floor v → floor ≤ f → length done ≤ f → size w ≤ 4096

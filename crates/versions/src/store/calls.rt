@@ -10,7 +10,7 @@ ghost use Rattle.versions.specs.Lent.{lentBy};
 ghost use Rattle.versions.specs.Laws.{someNewer};
 ghost use Rattle.versions.specs.Sizes.{roomIn};
 ghost use Rattle.versions.specs.Store.{held, size, spaces, roomFor, Committed};
-ghost use Rattle.versions.specs.History.{Holds, ShownBy, NewerBy, ConflictBy, CommitBy, SweepBy};
+ghost use Rattle.versions.specs.History.{Holds, ShownBy, NewerBy, ConflictBy, CountBy, RoomBy, CommitBy, SweepBy, FewBy};
 use super::Versions;
 use crate::chains::Chains;
 use crate::spare::Spare;
@@ -90,6 +90,7 @@ impl Versions<'_> {
     pub fn count(&self) -> u32
         ensures count { λ r. ⌜ r ≡ size (now (self .entry)) ⌝ }
         ensures bound { λ r. ⌜ r ≤ spaces (now (self .entry)) ⌝ }
+        ensures history { λ r. ⌜ CountBy (now (self .entry)) r ⌝ }
     {
         self.chains.count
     }
@@ -104,7 +105,8 @@ impl Versions<'_> {
 
     // Whether there is room for the versions that the writes make.
     pub fn room_for(&self, writes: &[Entry]) -> bool
-        ensures { λ r. ⌜ r ≡ roomFor (now (self .entry)) (now (writes .entry)) ⌝ }
+        ensures value { λ r. ⌜ r ≡ roomFor (now (self .entry)) (now (writes .entry)) ⌝ }
+        ensures history { λ r. ⌜ RoomBy (now (self .entry)) (now (writes .entry)) r ⌝ }
     {
         versions_of(writes) <= (self.chains.room - self.chains.count) as usize
     }
@@ -131,6 +133,7 @@ impl Versions<'_> {
         ensures size { λ _. ⌜ size (now (self .exit)) ≡ total (λ k. swept floor (held (now (self .entry)) k)) ⌝ }
         ensures spaces { λ _. ⌜ spaces (now (self .exit)) ≡ spaces (now (self .entry)) ⌝ }
         ensures history { λ _. ⌜ SweepBy floor (now (self .entry)) (now (self .exit)) ⌝ }
+        ensures few { λ _. ⌜ FewBy floor (now (self .entry)) (now (self .exit)) ⌝ }
     {
         self.spare.sweep(&self.chains, floor);
         std::mem::swap(&mut self.chains, &mut self.spare.to);

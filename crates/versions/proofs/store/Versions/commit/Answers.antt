@@ -11,6 +11,6 @@ returns c =
     let es = c .args .writes .now in
     let n = c .args .number in
     record {
-      done = (simp (sym (c .if-outside .ensures tt), sym (c .if-not-room-for .ensures tt)), c .commit .ensures .views, omega (arith, c .commit .ensures .good .4, c .commit .ensures .count, v .good .4), c .commit .ensures .room);
+      done = (simp (sym (c .if-outside .ensures tt), sym (c .if-not-room-for .ensures tt .value)), c .commit .ensures .views, omega (arith, c .commit .ensures .good .4, c .commit .ensures .count, v .good .4), c .commit .ensures .room);
       history = λ done floor t h same next low k lt. c .commit .ensures .views k ∙ ap (committed n es k) (h k lt) ∙ commit-by done t k floor n es same next low;
     }
