@@ -1,5 +1,5 @@
 mod Walks
-mod Sums
+pub mod Sums
 mod Places
 mod Stacks
 mod Copies

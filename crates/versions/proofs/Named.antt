@@ -7,8 +7,9 @@ use Prim.Native.Nat.{ℕ, zero, suc, _+_, _-_, _<_, _≤_}
 use native.Mathlib.Omega.{arith}
 use borrow.Author.Tests.{eq-eqb, ne-eqb, leb-false}
 use lib.Dec.{eqb, leb}
-use lib.ListN.{length, getD, drop}
+use lib.ListN.{length, getD, take, drop}
 use lib.Seq.{drop-cons, drop-length}
+use Rattle.std.proofs.shelf.Lists.{take-rest}
 use Rattle.std.proofs.shelf.Tests.{cases-eq, cases-bool, both-ways}
 use Rattle.model.specs.declared.Entry.{Entry}
 use Rattle.model.specs.Lists.{any}
@@ -24,9 +25,11 @@ drop-back es i pos h =
     let lt : i - 1 < length es = omega arith in
     subst (λ (m : ℕ). drop (i - 1) es ≡ getD es (i - 1) none ∷ drop m es) e (drop-cons es (i - 1) none lt)
 
--- what stands behind place i - 1 begins at i
-pub after-one : {b : Bool} (es : List Entry) (i k : ℕ) → 0 < i → names k (drop (i - 1 + 1) es) ≡ b → names k (drop i es) ≡ b
-after-one {b} es i k pos h = let e : i - 1 + 1 ≡ i = omega arith in subst (λ (m : ℕ). names k (drop m es) ≡ b) e h
+-- the rest behind place i - 1 begins at i
+pub rest-at : {b : Bool} (es : List Entry) (i k : ℕ) → 0 < i → names k (take (length es - (i - 1 + 1)) (drop (i - 1 + 1) es)) ≡ b → names k (drop i es) ≡ b
+rest-at {b} es i k pos h =
+    let e : i - 1 + 1 ≡ i = omega arith in
+    subst (λ (m : ℕ). names k (drop m es) ≡ b) e (sym (ap (names k) (take-rest es (i - 1 + 1))) ∙ h)
 
 pub inside-at : (es : List Entry) (i : ℕ) → outside es ≡ false → i < length es → getD es i none .key < 4096
 inside-at es i h l = leb-false 4096 (getD es i none .key) (any-at (λ (e : Entry). leb 4096 (e .key)) es i h l)

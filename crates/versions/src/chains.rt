@@ -44,15 +44,16 @@ impl<'a> Chains<'a> {
             number,
             value,
         } = words;
-        zero(heads);
-        Chains {
+        let mut chains = Chains {
             heads,
             next,
             number,
             value,
             count: 0,
             room,
-        }
+        };
+        chains.clear();
+        chains
     }
 }
 

@@ -8,4 +8,7 @@ mod writes;
 
 pub use laws::laws_stand;
 pub use store::Versions;
+pub use words::KEYS;
+pub use words::PLACES;
+pub use words::ROOM;
 pub use words::Words;

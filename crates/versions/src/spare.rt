@@ -9,6 +9,7 @@ ghost use Rattle.model.specs.Versions.{swept};
 ghost use Rattle.versions.specs.Chain.{Fits};
 ghost use Rattle.versions.specs.Lent.{inside, Good, view};
 use crate::chains::Chains;
+use crate::words::KEYS;
 
 #[derive(Drop)]
 pub struct Spare<'a> {
@@ -49,7 +50,7 @@ impl Spare<'_> {
         ensures views { λ _. ⌜ ((k : ℕ) → view (now (self .exit) .to) k ≡ swept floor (view (now (from .entry)) k)) ⌝ }
     {
         self.to.clear();
-        for key in 0..4096 {
+        for key in 0..KEYS {
             self.copy(from, key, floor);
         }
     }

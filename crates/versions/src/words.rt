@@ -2,7 +2,14 @@
 ghost use mathlib.Core.Path.{_≡_};
 ghost use Rattle.versions.specs.Sizes.{sized};
 
-// A word for each of 4,096 keys, and 32,769 of each other kind: a place each for 32,768 versions, and place 0 for none.
+// How many keys there are, how many versions there is room for in all, and how many places: place 0 is none.
+pub const KEYS: usize = 4096;
+
+pub const ROOM: u32 = 32768;
+
+pub const PLACES: usize = 32769;
+
+// A head for each key, and a word of each other kind for each place.
 #[derive(Drop)]
 pub struct Words<'a> {
     pub heads: &'a mut [u32],
@@ -16,9 +23,9 @@ impl Words<'_> {
     pub fn sized(&self) -> bool
         ensures { λ r. ⌜ r ≡ sized (now (self .entry)) ⌝ }
     {
-        self.heads.len() == 4096
-            && self.next.len() == 32769
-            && self.number.len() == 32769
-            && self.value.len() == 32769
+        self.heads.len() == KEYS
+            && self.next.len() == PLACES
+            && self.number.len() == PLACES
+            && self.value.len() == PLACES
     }
 }

@@ -2,41 +2,34 @@
 ghost use mathlib.Core.Path.{_≡_};
 ghost use mathlib.Core.Bool.{false};
 ghost use Prim.Native.Nat.{ℕ, _+_, _≤_};
-ghost use lib.ListN.{length, drop};
 ghost use Rattle.model.specs.Transactions.{names};
 ghost use Rattle.model.specs.Versions.{keysOf, committed};
 ghost use Rattle.versions.specs.Writes.{outside};
 ghost use Rattle.versions.specs.Lent.{Good, view};
 use crate::chains::Chains;
+use crate::words::KEYS;
 use model::Entry;
-
-const KEYS: u32 = 4096;
 
 // Whether a key of the writes is above 4,095.
 pub fn outside(writes: &[Entry]) -> bool
     ensures { λ r. ⌜ r ≡ outside (now (writes .entry)) ⌝ }
 {
-    let mut i = 0;
-    while i < writes.len() {
-        if writes[i].key >= KEYS {
+    for w in writes {
+        if w.key as usize >= KEYS {
             return true;
         }
-        i += 1;
     }
     false
 }
 
-// Whether the writes from a place on name the key.
-fn later(writes: &[Entry], from: usize, key: u32) -> bool
-    requires { ⌜ from ≤ length (now writes) ⌝ }
-    ensures { λ r. ⌜ r ≡ names key (drop from (now (writes .entry))) ⌝ }
+// Whether one of the writes is of the key.
+fn named(key: u32, writes: &[Entry]) -> bool
+    ensures { λ r. ⌜ r ≡ names key (now (writes .entry)) ⌝ }
 {
-    let mut i = from;
-    while i < writes.len() {
-        if writes[i].key == key {
+    for w in writes {
+        if w.key == key {
             return true;
         }
-        i += 1;
     }
     false
 }
@@ -47,7 +40,7 @@ pub fn versions_of(writes: &[Entry]) -> usize
 {
     let mut n = 0;
     for i in (0..writes.len()).rev() {
-        if !later(writes, i + 1, writes[i].key) {
+        if !named(writes[i].key, &writes[i + 1..]) {
             n += 1;
         }
     }
@@ -67,7 +60,7 @@ impl Chains<'_> {
     {
         for i in (0..writes.len()).rev() {
             let w = writes[i];
-            if !later(writes, i + 1, w.key) {
+            if !named(w.key, &writes[i + 1..]) {
                 self.add(w.key as usize, number, w.value);
             }
         }

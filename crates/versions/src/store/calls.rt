@@ -14,6 +14,7 @@ ghost use Rattle.versions.specs.History.{Holds, ShownBy, NewerBy, ConflictBy, 
 use super::Versions;
 use crate::chains::Chains;
 use crate::spare::Spare;
+use crate::words::ROOM;
 use crate::words::Words;
 use crate::writes::outside;
 use crate::writes::versions_of;
@@ -27,8 +28,8 @@ fn room_in(words: &Words, spare: &Words, stack: &[u32]) -> u32
     ensures spare { λ r. ⌜ Fits (lentBy (now (spare .entry))) r ⌝ }
     ensures stack { λ r. ⌜ r ≤ length (now (stack .entry)) ⌝ }
 {
-    if words.sized() && spare.sized() && stack.len() == 32768 {
-        32768
+    if words.sized() && spare.sized() && stack.len() == ROOM as usize {
+        ROOM
     } else {
         0
     }
@@ -76,12 +77,10 @@ impl Versions<'_> {
         ensures value { λ r. ⌜ r ≡ someNewer begin (held (now (self .entry))) (now (writes .entry)) ⌝ }
         ensures history { λ r. ⌜ ConflictBy (now (self .entry)) (now (writes .entry)) begin r ⌝ }
     {
-        let mut i = 0;
-        while i < writes.len() {
-            if self.newer(writes[i].key, begin) {
+        for w in writes {
+            if self.newer(w.key, begin) {
                 return true;
             }
-            i += 1;
         }
         false
     }

@@ -1,9 +1,10 @@
 use mathlib.Core.Path.{refl, sym, _∙_}
 use mathlib.Core.Bool.{Bool}
 use native.Mathlib.Omega.{arith}
+use Prim.Native.Nat.{_<_}
 use borrow.Author.Tests.{le-leb, lt-leb}
 use lib.Dec.{leb}
-use lib.ListN.{getD}
+use lib.ListN.{getD, length}
 use Rattle.model.specs.declared.Entry.{Entry}
 use Rattle.versions.proofs.Searches.{none, any-here, any-past, any-end}
 use Rattle.versions.proofs.writes.outside.Needs as need
@@ -11,17 +12,17 @@ use Rattle.versions.proofs.writes.outside.Needs as need
 abbrev far : Entry → Bool
 far e = leb 4096 (e .key)
 
-pub returns-then-writes-i-ge-KEYS : need.returns-then-writes-i-ge-KEYS
-returns-then-writes-i-ge-KEYS c =
+pub returns-then-w-ge-KEYS : need.returns-then-w-ge-KEYS
+returns-then-w-ge-KEYS c =
     let es = c .args .writes .now in
-    sym (sym (c .loop-i .inv .1) ∙ any-here far es (c .loop-i .i) (c .loop-i-test .taken) (le-leb 4096 (getD es (c .loop-i .i) none .key) (c .if-writes-i-ge-KEYS .taken)))
+    let i = c .loop-w .w-index in
+    sym (sym (c .loop-w .inv) ∙ any-here far es i (omega arith) (le-leb 4096 (getD es i none .key) (c .if-w-ge-KEYS .taken)))
 
-pub loop-i-again : need.loop-i-again
-loop-i-again c =
-    let es = c .args .writes .now in (
-      omega arith,
-      sym (any-past far es (c .loop-i .i) (c .loop-i-test .taken) (lt-leb 4096 (getD es (c .loop-i .i) none .key) (c .if-writes-i-ge-KEYS .left))) ∙ c .loop-i .inv .1,
-    )
+pub loop-w-again : need.loop-w-again
+loop-w-again c =
+    let es = c .args .writes .now in
+    let i = c .loop-w .w-index in
+    sym (any-past far es i (omega arith) (lt-leb 4096 (getD es i none .key) (c .if-w-ge-KEYS .left))) ∙ c .loop-w .inv
 
 pub returns : need.returns
-returns c = sym (sym (c .loop-i .inv .1) ∙ any-end far (c .args .writes .now) (c .loop-i .i) (c .loop-i-test .left))
+returns c = sym (sym (c .loop-w .inv) ∙ any-end far (c .args .writes .now) (c .loop-w .w-index) (omega arith))

@@ -4,17 +4,17 @@ use native.Mathlib.Omega.{arith}
 use lib.ListN.{getD, drop}
 use Rattle.model.specs.Versions.{keysOf}
 use Rattle.versions.proofs.Searches.{none}
-use Rattle.versions.proofs.Named.{drop-back, keys-new, keys-old, keys-end, after-one}
+use Rattle.versions.proofs.Named.{drop-back, keys-new, keys-old, keys-end, rest-at}
 use Rattle.versions.proofs.writes.versions_of.Needs as need
 
 pub loop-i-holds : need.loop-i-holds
 loop-i-holds c = (omega arith, sym (keys-end (c .args .writes .now)))
 
-pub loop-i-again-then-not-later : need.loop-i-again-then-not-later
-loop-i-again-then-not-later c =
+pub loop-i-again-then-not-named : need.loop-i-again-then-not-named
+loop-i-again-then-not-named c =
     let es = c .args .writes .now in
     let i = c .loop-i .i in
-    let none-later = after-one es i (getD es (i - 1) none .key) (c .loop-i-test .taken) (sym (c .if-not-later .ensures tt)) in (
+    let none-later = rest-at es i (getD es (i - 1) none .key) (c .loop-i-test .taken) (sym (c .if-not-named .ensures tt)) in (
       omega (arith, c .loop-i .inv .0, c .loop-i-test .taken),
       ap (λ n. n + 1) (c .loop-i .inv .1) ∙ sym (ap keysOf (drop-back es i (c .loop-i-test .taken) (c .loop-i .kept .i)) ∙ keys-new (getD es (i - 1) none) (drop i es) none-later),
     )
@@ -23,7 +23,7 @@ pub loop-i-again : need.loop-i-again
 loop-i-again c =
     let es = c .args .writes .now in
     let i = c .loop-i .i in
-    let some-later = after-one es i (getD es (i - 1) none .key) (c .loop-i-test .taken) (sym (c .if-not-later .ensures tt)) in (
+    let some-later = rest-at es i (getD es (i - 1) none .key) (c .loop-i-test .taken) (sym (c .if-not-named .ensures tt)) in (
       omega (arith, c .loop-i .inv .0, c .loop-i-test .taken),
       c .loop-i .inv .1 ∙ sym (ap keysOf (drop-back es i (c .loop-i-test .taken) (c .loop-i .kept .i)) ∙ keys-old (getD es (i - 1) none) (drop i es) some-later),
     )

@@ -9,7 +9,7 @@ use Rattle.model.specs.declared.Entry.{Entry}
 use Rattle.model.specs.Versions.{Version, keysOf, committed}
 use Rattle.versions.specs.Lent.{view}
 use Rattle.versions.proofs.Searches.{none}
-use Rattle.versions.proofs.Named.{drop-back, inside-at, keys-new, keys-old, keys-end, keys-part, after-one, commit-none, commit-old, commit-new}
+use Rattle.versions.proofs.Named.{drop-back, inside-at, keys-new, keys-old, keys-end, keys-part, rest-at, commit-none, commit-old, commit-new}
 use Rattle.versions.proofs.chains.Chains.commit.Needs as need
 
 pub loop-i-holds : need.loop-i-holds
@@ -21,7 +21,7 @@ add-requires c κs =
     let es = c .args .writes .now in
     let i = c .loop-i .i in
     let e = getD (c .args .writes .now) (c .loop-i .i - 1) none in
-    let later = after-one es i (e .key) (c .loop-i-test .taken) (sym (c .if-not-later .ensures tt)) in
+    let later = rest-at es i (e .key) (c .loop-i-test .taken) (sym (c .if-not-named .ensures tt)) in
     let more : keysOf (drop (i - 1) es) ≡ keysOf (drop i es) + 1 = ap keysOf (drop-back es i (c .loop-i-test .taken) (c .loop-i .kept .i)) ∙ keys-new e (drop i es) later in
     record {
       good = c .loop-i .inv .0;
@@ -29,15 +29,15 @@ add-requires c κs =
       room = omega (arith, more, keys-part es (i - 1), c .loop-i .inv .1, c .loop-i .inv .2, c .pre .room);
     }
 
-pub loop-i-again-then-not-later : need.loop-i-again-then-not-later
-loop-i-again-then-not-later c =
+pub loop-i-again-then-not-named : need.loop-i-again-then-not-named
+loop-i-again-then-not-named c =
     let es = c .args .writes .now in
     let i = c .loop-i .i in
     let s = c .loop-i .self in
     let n = c .args .number in
     let e = getD (c .args .writes .now) (c .loop-i .i - 1) none in
     let back = drop-back es i (c .loop-i-test .taken) (c .loop-i .kept .i) in
-    let later = after-one es i (e .key) (c .loop-i-test .taken) (sym (c .if-not-later .ensures tt)) in
+    let later = rest-at es i (e .key) (c .loop-i-test .taken) (sym (c .if-not-named .ensures tt)) in
     let more : keysOf (drop (i - 1) es) ≡ keysOf (drop i es) + 1 = ap keysOf back ∙ keys-new e (drop i es) later in (
       c .add .ensures .good,
       c .add .ensures .room ∙ c .loop-i .inv .1,
@@ -55,7 +55,7 @@ loop-i-again c =
     let n = c .args .number in
     let e = getD (c .args .writes .now) (c .loop-i .i - 1) none in
     let back = drop-back es i (c .loop-i-test .taken) (c .loop-i .kept .i) in
-    let later = after-one es i (e .key) (c .loop-i-test .taken) (sym (c .if-not-later .ensures tt)) in (
+    let later = rest-at es i (e .key) (c .loop-i-test .taken) (sym (c .if-not-named .ensures tt)) in (
       c .loop-i .inv .0,
       c .loop-i .inv .1,
       c .loop-i .inv .2 ∙ ap (λ m. c .args .self .now .count + m) (sym (ap keysOf back ∙ keys-old e (drop i es) later)),

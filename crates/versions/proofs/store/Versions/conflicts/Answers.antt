@@ -20,14 +20,14 @@ returns-then-newer c =
     let b = c .args .begin in
     let es = c .args .writes .now in
     let found : true ≡ someNewer (c .args .begin) (held (c .args .self .now)) (c .args .writes .now)
-    = sym (sym (c .loop-i .inv .1) ∙ any-here (is-newer b (held v)) es (c .loop-i .i) (c .loop-i-test .taken) (sym (c .if-newer .ensures tt .value))) in
+    = sym (sym (c .loop-w .inv) ∙ any-here (is-newer b (held v)) es (c .loop-w .w-index) (omega arith) (sym (c .if-newer .ensures tt .value))) in
     record { value = found; history = λ done floor h out. found ∙ conflict-by done b floor (held v) es h out }
 
-pub loop-i-again : need.loop-i-again
-loop-i-again c =
+pub loop-w-again : need.loop-w-again
+loop-w-again c =
     let v = c .args .self .now in
     let es = c .args .writes .now in
-    (omega arith, sym (any-past (is-newer (c .args .begin) (held v)) es (c .loop-i .i) (c .loop-i-test .taken) (sym (c .if-newer .ensures tt .value))) ∙ c .loop-i .inv .1)
+    (sym (any-past (is-newer (c .args .begin) (held v)) es (c .loop-w .w-index) (omega arith) (sym (c .if-newer .ensures tt .value))) ∙ c .loop-w .inv)
 
 pub returns : need.returns
 returns c =
@@ -35,5 +35,5 @@ returns c =
     let b = c .args .begin in
     let es = c .args .writes .now in
     let found : false ≡ someNewer (c .args .begin) (held (c .args .self .now)) (c .args .writes .now)
-    = sym (sym (c .loop-i .inv .1) ∙ any-end (is-newer b (held v)) es (c .loop-i .i) (c .loop-i-test .left)) in
+    = sym (sym (c .loop-w .inv) ∙ any-end (is-newer b (held v)) es (c .loop-w .w-index) (omega arith)) in
     record { value = found; history = λ done floor h out. found ∙ conflict-by done b floor (held v) es h out }
