@@ -19,18 +19,6 @@ use Rattle.versions.specs.Chain.{added}
 use Rattle.versions.specs.Writes.{outside}
 use Rattle.versions.proofs.Searches.{none, any-at, any-end}
 
-pub drop-back : (es : List Entry) (i : ℕ) → 0 < i → i ≤ length es → drop (i - 1) es ≡ getD es (i - 1) none ∷ drop i es
-drop-back es i pos h =
-    let e : suc (i - 1) ≡ i = omega arith in
-    let lt : i - 1 < length es = omega arith in
-    subst (λ (m : ℕ). drop (i - 1) es ≡ getD es (i - 1) none ∷ drop m es) e (drop-cons es (i - 1) none lt)
-
--- the rest behind place i - 1 begins at i
-pub rest-at : {b : Bool} (es : List Entry) (i k : ℕ) → 0 < i → names k (take (length es - (i - 1 + 1)) (drop (i - 1 + 1) es)) ≡ b → names k (drop i es) ≡ b
-rest-at {b} es i k pos h =
-    let e : i - 1 + 1 ≡ i = omega arith in
-    subst (λ (m : ℕ). names k (drop m es) ≡ b) e (sym (ap (names k) (take-rest es (i - 1 + 1))) ∙ h)
-
 pub inside-at : (es : List Entry) (i : ℕ) → outside es ≡ false → i < length es → getD es i none .key < 4096
 inside-at es i h l = leb-false 4096 (getD es i none .key) (any-at (λ (e : Entry). leb 4096 (e .key)) es i h l)
 
@@ -42,15 +30,6 @@ module _ (k : ℕ) (e : Entry) (es : List Entry) where
   names-past : e .key ≢ k → names k (e ∷ es) ≡ names k es
   unfolding any
   names-past h = rw (ne-eqb (e .key) k h)
-
-module _ (e : Entry) (es : List Entry) where
-  pub keys-new : names (e .key) es ≡ false → keysOf (e ∷ es) ≡ keysOf es + 1
-  unfolding keysOf
-  keys-new h = rw h
-
-  pub keys-old : names (e .key) es ≡ true → keysOf (e ∷ es) ≡ keysOf es
-  unfolding keysOf
-  keys-old h = rw h
 
 pub keys-end : (es : List Entry) → keysOf (drop (length es) es) ≡ 0
 unfolding keysOf
@@ -108,7 +87,7 @@ module _ (number : ℕ) (e : Entry) (es : List Entry) (k : ℕ) (vs : List Versi
       [ inl y ↦ rw (y, puts-named es (put e empty) empty k y) | inr n ↦ rw n ])
 
   -- where the key is written later too, the later write counts
-  pub commit-old : names (e .key) es ≡ true → committed number (e ∷ es) k vs ≡ committed number es k vs
+  commit-old : names (e .key) es ≡ true → committed number (e ∷ es) k vs ≡ committed number es k vs
   unfolding puts
   commit-old later =
       elim (cases-eq (e .key) k) [
@@ -118,7 +97,7 @@ module _ (number : ℕ) (e : Entry) (es : List Entry) (k : ℕ) (vs : List Versi
         | inr other ↦ commit-past other
       ]
 
-  pub commit-new : names (e .key) es ≡ false → added (e .key) number (e .value) (λ j. committed number es k vs) k ≡ committed number (e ∷ es) k vs
+  commit-new : names (e .key) es ≡ false → added (e .key) number (e .value) (λ j. committed number es k vs) k ≡ committed number (e ∷ es) k vs
   unfolding puts
   commit-new later =
       elim (cases-eq (e .key) k) [
@@ -130,3 +109,36 @@ module _ (number : ℕ) (e : Entry) (es : List Entry) (k : ℕ) (vs : List Versi
 
 pub commit-none : (number : ℕ) (es : List Entry) (k : ℕ) (vs : List Version) → committed number (drop (length es) es) k vs ≡ vs
 commit-none number es k vs = rw (any-end (λ (e : Entry). eqb (e .key) k) es (length es) (omega arith))
+
+-- the write at place i - 1, and the rest behind it
+abbrev pub before : List Entry → ℕ → Entry
+before es i = getD es (i - 1) none
+
+abbrev pub behind : List Entry → ℕ → List Entry
+behind es i = take (length es - (i - 1 + 1)) (drop (i - 1 + 1) es)
+
+-- one write more, from the writes from i on; b says whether one of them is of the same key
+module _ (es : List Entry) (i : ℕ) (pos : 0 < i) (low : i ≤ length es) (b : Bool) (later : b ≡ names (before es i .key) (behind es i)) where
+  back : drop (i - 1) es ≡ before es i ∷ drop i es
+  back =
+      let e : suc (i - 1) ≡ i = omega arith in
+      let lt : i - 1 < length es = omega arith in
+      subst (λ (m : ℕ). drop (i - 1) es ≡ before es i ∷ drop m es) e (drop-cons es (i - 1) none lt)
+
+  named : names (before es i .key) (drop i es) ≡ b
+  named =
+      let e : i - 1 + 1 ≡ i = omega arith in
+      subst (λ (m : ℕ). names (before es i .key) (drop m es) ≡ b) e (sym (later ∙ ap (names (before es i .key)) (take-rest es (i - 1 + 1))))
+
+  pub keys-step : keysOf (drop (i - 1) es) ≡ cond b (keysOf (drop i es)) (keysOf (drop i es) + 1)
+  unfolding keysOf
+  keys-step = ap keysOf back ∙ ap (λ (x : Bool). cond x (keysOf (drop i es)) (keysOf (drop i es) + 1)) named
+
+  pub commit-step : (n k : ℕ) (vs cur : List Version) → cur ≡ committed n (drop i es) k vs
+      → cond b cur (added (before es i .key) n (before es i .value) (λ j. cur) k) ≡ committed n (drop (i - 1) es) k vs
+  commit-step n k vs cur same = go b named ∙ sym (ap (λ (ws : List Entry). committed n ws k vs) back)
+    where
+      go : (x : Bool) → names (before es i .key) (drop i es) ≡ x
+          → cond x cur (added (before es i .key) n (before es i .value) (λ j. cur) k) ≡ committed n (before es i ∷ drop i es) k vs
+      go true h = same ∙ sym (commit-old n (before es i) (drop i es) k vs h)
+      go false h = ap (λ (xs : List Version). added (before es i .key) n (before es i .value) (λ j. xs) k) same ∙ commit-new n (before es i) (drop i es) k vs h

@@ -10,6 +10,7 @@ use lib.ListN.{length, getD, take, drop, set, length-map, length-take}
 use lib.Seq.{getD-set-same, getD-set-other, take-suc-set, drop-cons, getD-take, length-take-le, drop-length}
 use Rattle.std.proofs.shelf.Tests.{cases-lt}
 
+-- one place more on the stack
 pub pushed : {X : Type 0} (f : ℕ → X) (st : List ℕ) (n p : ℕ) (rest : List X) → n < length st
     → map f (take (n + 1) (set st n p)) ++ rest ≡ map f (take n st) ++ f p ∷ rest
 pushed f st n p rest h = rw (add-one n, take-suc-set st n p h, map-append f (take n st) (p ∷ []), append-assoc (map f (take n st)) (f p ∷ []) rest)
@@ -24,6 +25,7 @@ pushed-below st n p b h q below i l =
 pub kept-length : {X : Type 0} (f : ℕ → X) (st : List ℕ) (n : ℕ) (vs : List X) → n ≤ length st → map f (take n st) ≡ vs → length vs ≡ n
 kept-length f st n vs h e = sym (ap length e) ∙ length-map (take n st) f ∙ length-take-le n st h
 
+-- the last of the places from i - 1 on
 pub popped : {X : Type 0} (f : ℕ → X) (st : List ℕ) (n i : ℕ) → 0 < i → i ≤ n → n ≤ length st
     → map f (drop (i - 1) (take n st)) ≡ f (getD st (i - 1) 0) ∷ map f (drop i (take n st))
 popped f st n i pos h l =
@@ -36,6 +38,7 @@ popped f st n i pos h l =
 pub drop-taken : {X : Type 0} (f : ℕ → X) (st : List ℕ) (n : ℕ) → n ≤ length st → map f (drop n (take n st)) ≡ []
 drop-taken f st n h = let e : length (take n st) ≡ n = length-take-le n st h in ap (λ (m : ℕ). map f (drop m (take n st))) (sym e) ∙ rw (drop-length (take n st))
 
+-- one version more in front of those of the one key that b says
 pub one-more : {X : Type 0} (b : Bool) (v : X) (new cur old some more : List X) → new ≡ cond b (v ∷ cur) cur → cur ≡ cond b some old → more ≡ v ∷ some → new ≡ cond b more old
 one-more true v new cur old some more p q r = cc
 one-more false v new cur old some more p q r = cc

@@ -1,8 +1,8 @@
 // What is asked of the versions, and what is done with them.
 ghost use mathlib.Core.Path.{_≡_};
-ghost use mathlib.Core.Bool.{false};
+ghost use mathlib.Core.Bool.{true, false};
 ghost use mathlib.Core.List.{[]};
-ghost use Prim.Native.Nat.{ℕ, _≤_};
+ghost use Prim.Native.Nat.{ℕ, _+_, _≤_};
 ghost use lib.ListN.{length};
 ghost use Rattle.model.specs.Versions.{shown, newer, swept};
 ghost use Rattle.versions.specs.Chain.{Fits, total};
@@ -105,6 +105,7 @@ impl Versions<'_> {
     // Whether there is room for the versions that the writes make.
     pub fn room_for(&self, writes: &[Entry]) -> bool
         ensures value { λ r. ⌜ r ≡ roomFor (now (self .entry)) (now (writes .entry)) ⌝ }
+        ensures enough { λ r. ⌜ (size (now (self .entry)) + length (now (writes .entry)) ≤ spaces (now (self .entry)) → r ≡ true) ⌝ }
         ensures history { λ r. ⌜ RoomBy (now (self .entry)) (now (writes .entry)) r ⌝ }
     {
         versions_of(writes) <= (self.chains.room - self.chains.count) as usize
