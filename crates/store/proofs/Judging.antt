@@ -44,7 +44,7 @@ module _ (e : Engine) (snd : Sound e) (v : Versions) (w : Window) (ss : List Slo
     holds = fit .window .holds;
     timely = allowed-timely (txns e) (snd .allowed);
     begun = simp length-map (snd .under i l here .begun);
-    late = fit .window .serials i l here
+    late = fit .window .serials i l here;
   }
 
   pub verdict-told : (conflict : Bool) (r : Option Refusal) → ConflictBy v (l .txn .writes) (l .txn .begin) conflict → VerdictTold w (l .txn) conflict r → r ≡ verdict (l .txn) (txns e)
@@ -52,14 +52,14 @@ module _ (e : Engine) (snd : Sound e) (v : Versions) (w : Window) (ss : List Slo
 
   pub room-told : (q : Bool) → RoomBy v (l .txn .writes) q → not q ≡ ltb 32768 (versionCount e + keysOf (l .txn .writes))
   room-told q p =
-    ap not (p (txns e) (e .floor) (fit .held) ∙ ap (leb (versionCount e + keysOf (l .txn .writes))) (fit .room)) ∙ beyond (versionCount e + keysOf (l .txn .writes)) 32768
+      ap not (p (txns e) (e .floor) (fit .held) ∙ ap (leb (versionCount e + keysOf (l .txn .writes))) (fit .room)) ∙ beyond (versionCount e + keysOf (l .txn .writes)) 32768
 
   pub judged : (conflict room : Bool) (r : Option Refusal) → ConflictBy v (l .txn .writes) (l .txn .begin) conflict → VerdictTold w (l .txn) conflict r → RoomBy v (l .txn .writes) room →
-    firstOf r (firstOf (when (not room) NoRoom) (when (leb 4294967295 n) LastCommit)) ≡ commitRefusal e l
+      firstOf r (firstOf (when (not room) NoRoom) (when (leb 4294967295 n) LastCommit)) ≡ commitRefusal e l
   judged conflict room r q p m =
-    ap (λ (o : Option Refusal). firstOf o (firstOf (when (not room) NoRoom) (when (leb 4294967295 n) LastCommit))) (verdict-told conflict r q p)
-    ∙ ap (λ (b : Bool). firstOf (verdict (l .txn) (txns e)) (firstOf (when b NoRoom) (when (leb 4294967295 n) LastCommit))) (room-told room m)
-    ∙ ap (λ (k : ℕ). firstOf (verdict (l .txn) (txns e)) (firstOf (when (ltb 32768 (versionCount e + keysOf (l .txn .writes))) NoRoom) (when (leb 4294967295 k) LastCommit))) (fit .number)
+      ap (λ (o : Option Refusal). firstOf o (firstOf (when (not room) NoRoom) (when (leb 4294967295 n) LastCommit))) (verdict-told conflict r q p)
+      ∙ ap (λ (b : Bool). firstOf (verdict (l .txn) (txns e)) (firstOf (when b NoRoom) (when (leb 4294967295 n) LastCommit))) (room-told room m)
+      ∙ ap (λ (k : ℕ). firstOf (verdict (l .txn) (txns e)) (firstOf (when (ltb 32768 (versionCount e + keysOf (l .txn .writes))) NoRoom) (when (leb 4294967295 k) LastCommit))) (fit .number)
 
 -- the same of any transaction and writes that are those of the slot
 pub judged-of : (e : Engine) → Sound e → (v : Versions) (w : Window) (ss : List Slot) (n : ℕ) → Fits e v w ss n → (i : ℕ) (l : Life) → slotAt i e ≡ Some l →

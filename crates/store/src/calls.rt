@@ -14,6 +14,7 @@ ghost use Rattle.model.specs.declared.Refusal.the-variants.{NoRoom, LastCommit}
 ghost use Rattle.history.specs.Engine.{outOfBounds, when, firstOf};
 ghost use Rattle.store.specs.Fits.{counts, lowerRun, floorOf, busyRun, busyOf};
 ghost use Rattle.store.specs.Calls.{Refuses, SlotRefuses, Judges, Puts, Keeps, Performs, PerformsOr, Counted, Finds, StandsAt, ReadsBy, CommitsBy, Enters};
+use crate::state::Tables;
 use conflicts::Window;
 use model::Answer;
 use model::Call;
@@ -26,9 +27,9 @@ use std::alloc::Global;
 use transactions::Slot;
 use transactions::Transaction;
 use versions::Versions;
-use crate::state::Tables;
 
 const SLOTS: u32 = 16;
+
 const KEYS: u32 = 4096;
 
 // Whether a number of the call is out of bounds.
@@ -38,7 +39,11 @@ pub fn is_out_of_bounds(call: Call) -> bool
     match call {
         Call::Begin { slot, level } => slot >= SLOTS || level.is_none(),
         Call::Read { slot, from, to } => slot >= SLOTS || to <= from || to > KEYS,
-        Call::Write { slot, key, value: _ } => slot >= SLOTS || key >= KEYS,
+        Call::Write {
+            slot,
+            key,
+            value: _,
+        } => slot >= SLOTS || key >= KEYS,
         Call::Commit { slot } => slot >= SLOTS,
         Call::Abort { slot } => slot >= SLOTS,
         Call::Sweep | Call::Sync | Call::Stop | Call::Show => false,
@@ -82,7 +87,11 @@ fn read_refusal(slot: Slot) -> Option<Refusal>
 {
     match slot {
         Slot::Idle => Some(Refusal::SlotState),
-        Slot::Active(t) => if t.reads_full() { Some(Refusal::TooMany) } else { None },
+        Slot::Active(t) => if t.reads_full() {
+            Some(Refusal::TooMany)
+        } else {
+            None
+        },
     }
 }
 
@@ -91,7 +100,11 @@ fn write_refusal(slot: Slot) -> Option<Refusal>
 {
     match slot {
         Slot::Idle => Some(Refusal::SlotState),
-        Slot::Active(t) => if t.writes_full() { Some(Refusal::TooMany) } else { None },
+        Slot::Active(t) => if t.writes_full() {
+            Some(Refusal::TooMany)
+        } else {
+            None
+        },
     }
 }
 
@@ -105,7 +118,11 @@ fn first_of(judged: Option<Refusal>, room: bool, commits: u32) -> Option<Refusal
     if !room {
         return Some(Refusal::NoRoom);
     }
-    if commits == u32::MAX { Some(Refusal::LastCommit) } else { None }
+    if commits == u32::MAX {
+        Some(Refusal::LastCommit)
+    } else {
+        None
+    }
 }
 
 // One more where the slot is busy.
@@ -122,7 +139,13 @@ fn busier(slot: &Slot, n: u32) -> u32
 impl<'s, 'a> Tables<'s, 'a> {
     pub fn new(heap: Global, versions: &'s mut Versions<'a>) -> Tables<'s, 'a> {
         versions.clear();
-        Tables { heap, versions, window: Window::new(heap), slots: [Slot::Idle; 16], commits: 0 }
+        Tables {
+            heap,
+            versions,
+            window: Window::new(heap),
+            slots: [Slot::Idle; 16],
+            commits: 0,
+        }
     }
 }
 
@@ -173,8 +196,16 @@ impl Tables<'_, '_> {
     {
         match call {
             Call::Begin { slot, level: _ } => begin_refusal(self.slot(slot)),
-            Call::Read { slot, from: _, to: _ } => read_refusal(self.slot(slot)),
-            Call::Write { slot, key: _, value: _ } => write_refusal(self.slot(slot)),
+            Call::Read {
+                slot,
+                from: _,
+                to: _,
+            } => read_refusal(self.slot(slot)),
+            Call::Write {
+                slot,
+                key: _,
+                value: _,
+            } => write_refusal(self.slot(slot)),
             Call::Commit { slot } => self.commit_refusal(slot),
             Call::Abort { slot } => abort_refusal(self.slot(slot)),
             Call::Sweep | Call::Sync | Call::Stop | Call::Show => None,
@@ -261,7 +292,11 @@ impl Tables<'_, '_> {
         ensures { λ r. ⌜ Counted (now (self .entry)) r ⌝ }
     {
         let versions = self.versions.count();
-        Counts { commits: self.commits, versions, busy: self.busy() }
+        Counts {
+            commits: self.commits,
+            versions,
+            busy: self.busy(),
+        }
     }
 
     // What the transaction finds in the range when the first `at` commits are done.

@@ -8,8 +8,8 @@ pub loop-slot-again : need.loop-slot-again
 loop-slot-again c =
     c .loop-slot .inv
     ∙ floor-more (counts (c .args .snapshots)) (c .loop-slot .floor) (c .lower-floor .result) (c .args .self .now .slots) (c .loop-slot .slot-index) (c .slot-item .result)
-      (omega (arith, c .loop-slot-test .taken, c .args .self .now .all))
-      (c .lower-floor .ensures)
+    (omega (arith, c .loop-slot-test .taken, c .args .self .now .all))
+    (c .lower-floor .ensures)
 
 pub returns : need.returns
 returns c =
