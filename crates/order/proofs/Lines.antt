@@ -1,21 +1,18 @@
 -- The line takes each once, and nobody who has to stand before one comes after it.
-use mathlib.Core.Path.{_≡_, refl, sym, ap, subst, _∙_}
-use mathlib.Core.Logic.{_⊎_, inl, inr}
-use mathlib.Core.Bool.{Bool, true, false}
+use mathlib.Core.Path.{_≡_, sym, ap, subst}
+use mathlib.Core.Logic.{inl, inr}
+use mathlib.Core.Bool.{false, not}
 use mathlib.Core.List.{List, [], _∷_, _++_}
-use Prim.Native.Nat.{ℕ, zero, suc, _+_, _<_, _≤_}
+use Prim.Native.Nat.{ℕ, zero, suc, _<_}
 use native.Mathlib.Omega.{arith}
-use lib.Dec.{ltb}
-use lib.ListN.{length, getD}
-use Rattle.std.specs.Holes.{removed}
+use lib.ListN.{length}
 use Rattle.std.specs.shelf.Sorted.{Shuffled}
-use Rattle.std.proofs.shelf.Edits.{length-removed}
-use Rattle.std.proofs.shelf.Sorted.{shuffled-refl, shuffled-cons, shuffled-trans, shuffled-sym, all-shuffled}
-use Rattle.std.proofs.shelf.Tests.{lt-ltb, cond-true}
+use Rattle.std.proofs.shelf.Sorted.{shuffled-refl, shuffled-cons, shuffled-trans, length-shuffled, all-shuffled}
+use Rattle.std.proofs.shelf.Tests.{not-true, not-from-false}
 use Rattle.model.specs.Transactions.{Txn}
 use Rattle.conflicts.specs.Laws.{Allowed}
-use Rattle.order.specs.Order.{standsBefore, commitAt, blocked, firstFree, lined, AllSerial}
-use Rattle.order.proofs.Members.{In, in-left, in-right, all-in, all-from, any-none, first-not, in-removed, to-front, Asc, asc-removed, removed-apart}
+use Rattle.order.specs.Order.{standsBefore, commitAt, blocked, without, thenThose, lined, AllSerial}
+use Rattle.order.proofs.Members.{In, in-left, in-right, all-in, all-from, any-none, Asc, asc-kept, in-without, to-front, low-some}
 use Rattle.order.proofs.Stands.{one-free}
 
 pub shuffled-in : {A : Type 0} (x : A) (xs ys : List A) → Shuffled xs ys → In x ys → In x xs
@@ -53,15 +50,15 @@ module _ (done : List Txn) where
     lined-whole zero (x ∷ xs) h a b = absurd (omega arith)
     lined-whole (suc n) left h a b =
         let free = one-free done allowed serials left a b (omega arith) in
-        let f = first-not (blocked done left) (free .0) 0 left (free .1) (free .2) in
-        let j = firstFree done left in
-        let x = getD left j 0 in
-        let rest = removed left j in
-        let k = length-removed left j (f .0) in
-        let ih = lined-whole n rest (omega arith) (asc-removed j left (f .0) a) (λ i m. b i (in-removed 0 j left i (f .0) m)) in
+        let f = low-some (λ i. not (blocked done left i)) (free .0) left (free .1) (not-from-false (blocked done left (free .0)) (free .2)) in
+        let x = f .0 in
+        let rest = without x left in
+        let front : Shuffled left (x ∷ rest) = to-front x left a (f .1) in
+        let k : suc (length rest) ≡ length left = length-shuffled left (x ∷ rest) front in
+        let ih = lined-whole n rest (omega arith) (asc-kept _ left a) (λ i m. b i (in-without x i left m .0)) in
         let ls = lined done n rest in
-        let line : (b : ℕ) → In b ls → Follows x b = λ b m.
-        let i = shuffled-in b rest ls (ih .1) m in
-        (any-none (λ (j : ℕ). standsBefore (commitAt done j) (commitAt done x)) b left (in-removed 0 j left b (f .0) i) (f .1), removed-apart j left b (f .0) a i) in
-        subst (Lined left) (sym (cond-true (ltb j (length left)) (x ∷ ls) [] (lt-ltb j (length left) (f .0))))
-        ((line, ih .0), shuffled-trans left (x ∷ rest) (x ∷ ls) (to-front 0 j left (f .0)) (shuffled-cons x rest ls (ih .1)))
+        let follow : (b : ℕ) → In b ls → Follows x b = λ b m.
+        let i = in-without x b left (shuffled-in b rest ls (ih .1) m) in
+        (any-none (λ (j : ℕ). standsBefore (commitAt done j) (commitAt done x)) b left (i .0) (not-true (blocked done left x) (f .2)), i .1) in
+        subst (Lined left) (sym (ap (λ o. thenThose o (λ i. lined done n (without i left))) (f .3)))
+        ((follow, ih .0), shuffled-trans left (x ∷ rest) (x ∷ ls) front (shuffled-cons x rest ls (ih .1)))

@@ -3,16 +3,18 @@ use mathlib.Core.Path.{_≡_}
 use mathlib.Core.Bool.{Bool, true, false, cond, _&&_, _||_, not}
 use mathlib.Core.List.{List, [], _∷_, map}
 use Prim.Native.Nat.{ℕ, zero, suc, _<_}
-use lib.Dec.{eqb, ltb, leb}
-use lib.ListN.{length, getD}
+use lib.Dec.{eqb, ltb}
+use lib.ListN.{length}
 use Rattle.std.specs.Iters.{counting}
-use Rattle.std.specs.Holes.{removed}
 use Rattle.std.specs.shelf.Lists.{All}
 use Rattle.std.specs.shelf.Sorted.{Shuffled}
+use Rattle.std.specs.declared.option.Option.{Option}
+use Rattle.std.specs.declared.option.Option.the-variants.{Some, None}
 use Rattle.model.specs.declared.Level.the-variants.{Serial}
-use Rattle.model.specs.Lists.{any}
+use Rattle.model.specs.Lists.{any, kept}
 use Rattle.model.specs.Transactions.{State, Read, Txn, puts, after, empty, alone, answered, readsSome, bothWrite, isLatest}
 use Rattle.model.specs.Commits.{Commit, unseen}
+use Rattle.conflicts.specs.Marks.{lowest}
 use Rattle.conflicts.specs.Laws.{nth, Allowed}
 
 -- both wrote a key, and a's number is the lower
@@ -38,22 +40,21 @@ commitAt done n = record { number = n; txn = nth done n }
 abbrev pub blocked : List Txn → List ℕ → ℕ → Bool
 blocked done left i = any (λ (j : ℕ). standsBefore (commitAt done j) (commitAt done i)) left
 
--- the place of the first that does not pass the test, or the length where there is none
-unfoldable pub firstNot : {A : Type 0} → (A → Bool) → List A → ℕ
-firstNot p [] = 0
-firstNot p (x ∷ xs) = cond (p x) (suc (firstNot p xs)) 0
+-- the first of those left that none of them has to stand before; they stand by rising numbers, so it is the lowest
+abbrev pub firstFree : List Txn → List ℕ → Option ℕ
+firstFree done left = lowest (λ i. i) (λ i. not (blocked done left i)) left
 
--- the place of the first of those left that none of them has to stand before
-abbrev pub firstFree : List Txn → List ℕ → ℕ
-firstFree done left = firstNot (blocked done left) left
+abbrev pub without : ℕ → List ℕ → List ℕ
+without i left = kept (λ j. not (eqb j i)) left
 
--- the line of those left, by rising numbers, of which there are n; it ends early where each has to wait for another
+abbrev pub thenThose : Option ℕ → (ℕ → List ℕ) → List ℕ
+thenThose None f = []
+thenThose (Some i) f = i ∷ f i
+
+-- the line of those left, n of them at most; it ends early where each has to wait for another
 unfoldable pub lined : List Txn → ℕ → List ℕ → List ℕ
 lined done zero left = []
-lined done (suc n) left =
-    cond (ltb (firstFree done left) (length left))
-    (getD left (firstFree done left) 0 ∷ lined done n (removed left (firstFree done left)))
-    []
+lined done (suc n) left = thenThose (firstFree done left) (λ i. lined done n (without i left))
 
 -- the numbers of all commits, taking each time the lowest that none of the others left has to stand before
 abbrev pub line : List Txn → List ℕ
