@@ -3,3 +3,4 @@ pub mod Stands
 pub mod Lines
 pub mod Keys
 pub mod Serial
+pub mod Taking
