@@ -1,0 +1,6 @@
+pub mod Members
+pub mod Stands
+pub mod Lines
+pub mod Keys
+pub mod Serial
+pub mod Taking

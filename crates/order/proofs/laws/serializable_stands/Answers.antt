@@ -1,0 +1,5 @@
+use Rattle.order.proofs.Serial.{serializable}
+use Rattle.order.proofs.laws.serializable_stands.Needs as need
+
+pub returns : need.returns
+returns c = serializable
