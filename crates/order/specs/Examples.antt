@@ -4,7 +4,7 @@ use mathlib.Core.List.{List, [], _∷_}
 use Prim.Native.Nat.{ℕ}
 use Rattle.model.specs.declared.Entry.{Entry}
 use Rattle.model.specs.declared.Level.the-variants.{Serial}
-use Rattle.model.specs.Transactions.{Txn, Read}
+use Rattle.model.specs.Transactions.{Txn}
 use Rattle.conflicts.specs.Laws.{Allowed}
 use Rattle.order.specs.Order.{line, OneMoment, AllSerial}
 
