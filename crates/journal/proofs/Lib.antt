@@ -1,0 +1,10 @@
+pub mod Anys
+pub mod Places
+pub mod Encoding
+pub mod Entries
+pub mod Reading
+pub mod Replaying
+pub mod Back
+pub mod Cuts
+pub mod Pieces
+pub mod Canon

@@ -1,0 +1,44 @@
+-- What is promised of records and files.
+use mathlib.Core.Path.{_≡_}
+use mathlib.Core.List.{List, [], _∷_, _++_}
+use Prim.Native.Nat.{ℕ, _+_, _^_, _≤_, _<_}
+use lib.ListN.{length, take, drop}
+use Rattle.std.specs.shelf.Lists.{All}
+use Rattle.model.specs.declared.Entry.{Entry}
+use Rattle.journal.specs.Records.{recordOf}
+use Rattle.journal.specs.Parsing.{whole, parsed}
+use Rattle.journal.specs.Files.{fileOf, Opened, good, bad, replayed, opened, wholeIn, behind, onGood}
+
+abbrev pub FineEntry : Entry → Type 0
+FineEntry e = (e .key ≤ 4095) × (e .value < 2 ^ 32)
+
+-- the writes of a commit that can be
+abbrev pub FineCommit : List Entry → Type 0
+FineCommit es = (length es ≤ 64) × All FineEntry es
+
+-- commits that can be: never more than 4,294,967,295
+abbrev pub FineCommits : List (List Entry) → Type 0
+FineCommits ws = (length ws < 2 ^ 32) × All FineCommit ws
+
+-- a commit's record is read as the commit, whatever follows
+abbrev pub RecordBack : Type 0
+RecordBack = (n : ℕ) (es : List Entry) (rest : List ℕ) → n < 2 ^ 32 → FineCommit es →
+    parsed n (recordOf n es ++ rest) ≡ whole es (length (recordOf n es))
+
+-- a file of commits is read as the commits
+abbrev pub FileBack : Type 0
+FileBack = (ws : List (List Entry)) → FineCommits ws → opened (fileOf ws) ≡ good ws (length (fileOf ws))
+
+-- cut anywhere, it is read as those whose records end before the cut
+abbrev pub CutAnywhere : Type 0
+CutAnywhere = (ws : List (List Entry)) (p : ℕ) → FineCommits ws →
+    opened (take p (fileOf ws)) ≡ good (take (wholeIn p ws) ws) (length (fileOf (take (wholeIn p ws) ws)))
+
+-- read in two pieces, with what the first left over in front of the second, bytes are read as at once
+abbrev pub InPieces : Type 0
+InPieces = (n : ℕ) (a b : List ℕ) →
+    replayed n (a ++ b) ≡ onGood (replayed n a) (λ ws used. behind ws used (replayed (n + length ws) (drop used a ++ b)))
+
+-- the bytes that are read as commits are those of the commits' records
+abbrev pub Canonical : Type 0
+Canonical = (bs : List ℕ) (ws : List (List Entry)) (n : ℕ) → All (λ b. b < 256) bs → opened bs ≡ good ws n → take n bs ≡ fileOf ws

@@ -1,0 +1,13 @@
+// What records and files promise.
+ghost use Rattle.journal.specs.Laws.{RecordBack, FileBack, CutAnywhere, InPieces, Canonical};
+
+// The laws stand: a caller has them for any commits and bytes.
+pub fn laws_stand() -> u8
+    ensures records { λ _. ⌜ RecordBack ⌝ }
+    ensures files { λ _. ⌜ FileBack ⌝ }
+    ensures cuts { λ _. ⌜ CutAnywhere ⌝ }
+    ensures pieces { λ _. ⌜ InPieces ⌝ }
+    ensures canonical { λ _. ⌜ Canonical ⌝ }
+{
+    0
+}
