@@ -14,9 +14,9 @@ use Rattle.std.proofs.shelf.Tests.{le-ltb, or-from}
 use Rattle.std.proofs.shelf.Ways.{tells}
 use Rattle.model.specs.declared.Entry.{Entry}
 use Rattle.model.specs.Lists.{any}
-use Rattle.journal.specs.Records.{be2, be4, entryBytes, headBytes, recordOf, strays}
+use Rattle.journal.specs.Records.{be2, be4, entryBytes, headBytes, recordOf, written, strays, FineEntry, FineCommit}
 use Rattle.journal.specs.Parsing.{of2, of4, entryOf, entriesOf, counted, entriesIn, Reading, whole, short, checked, parsed}
-use Rattle.journal.specs.Laws.{FineEntry, FineCommit, RecordBack}
+use Rattle.journal.specs.Laws.{RecordBack}
 use Rattle.journal.proofs.Places.{length-record}
 
 of2-be2 : (n : ℕ) (rest : List ℕ) → n < 2 ^ 16 → of2 (be2 n ++ rest) ≡ n
@@ -77,6 +77,11 @@ record-back n es rest small fine =
     parsed-whole n es (recordOf n es ++ rest) refl refl (omega (arith, length-append (recordOf n es) rest, length-record n es))
     (of4-be4 n (length es ∷ (joined entryBytes es ++ rest)) small) (fine .0) (entries-back es rest (fine .1)) (none-stray es (fine .1))
     ∙ ap (whole es) (sym (length-record n es))
+
+-- the same where it stands in front of what was there
+pub written-back : (n : ℕ) (es : List Entry) (xs ys : List ℕ) → n < 2 ^ 32 → FineCommit es → ys ≡ written 0 (recordOf n es) xs → parsed n ys ≡ whole es (6 + 6 * length es)
+unfolding written
+written-back n es xs ys small fine e = ap (parsed n) e ∙ record-back n es _ small fine ∙ ap (whole es) (length-record n es)
 
 pub record-short : (n : ℕ) (es : List Entry) (p : ℕ) → p < length (recordOf n es) → parsed n (take p (recordOf n es)) ≡ short
 unfolding recordOf headBytes be4

@@ -1,23 +1,26 @@
 -- What is read is what stands there: a whole record's bytes are those of its number and writes.
 use mathlib.Core.Path.{_≡_, refl, sym, ap, subst, _∙_}
-use mathlib.Core.Bool.{cond}
+use mathlib.Core.Bool.{false, cond}
 use mathlib.Core.List.{List, [], _∷_, _++_}
 use Prim.Native.Nat.{ℕ, zero, suc, _+_, _*_, _/_, _%_, _^_, _≤_, _<_}
 use native.Mathlib.Omega.{arith}
+use mir.Syntax.{w8}
+use mir.Val.{Fits}
 use lib.Dec.{ltb}
 use lib.ListN.{length, take, drop, getD}
 use lib.Seq.{take-add}
 use Rattle.std.specs.Joined.{joined}
 use Rattle.std.specs.shelf.Lists.{All}
-use Rattle.std.proofs.shelf.Elements.{all-drop}
+use Rattle.std.proofs.shelf.Elements.{all-drop, all-from-getD}
 use Rattle.std.proofs.shelf.Lists.{length-drop}
-use Rattle.std.proofs.shelf.Tests.{cond-both}
+use Rattle.std.proofs.shelf.Tests.{cond-both, ltb-true, ltb-false, or-parts}
 use Rattle.model.specs.declared.Entry.{Entry}
+use Rattle.model.specs.Lists.{any}
 use Rattle.journal.specs.declared.types.Fault.the-variants.{WrongNumber}
-use Rattle.journal.specs.Records.{be2, be4, entryBytes, headBytes, recordOf}
-use Rattle.journal.specs.Parsing.{of2, of4, entryOf, entriesOf, counted, Reading, whole, short, faulty, parsed}
-use Rattle.journal.specs.Files.{fileFrom, Opened, good, bad, after, onward, turned}
-use Rattle.journal.specs.Laws.{Canonical}
+use Rattle.journal.specs.Records.{be2, be4, entryBytes, headBytes, recordOf, strays, FineEntry, FineCommit}
+use Rattle.journal.specs.Parsing.{of2, of4, entryOf, entriesOf, counted, Reading, whole, short, faulty, parsed, RecordIn}
+use Rattle.journal.specs.Files.{fileFrom, Opened, good, bad, after, onward, turned, replayed, opened, Read, ReadIn}
+use Rattle.journal.specs.Laws.{Canonical, ReadFine}
 use Rattle.journal.proofs.Reading.{Within, whole-within}
 
 abbrev Small : List ℕ → Type 0
@@ -88,7 +91,7 @@ head-forth n (a ∷ b ∷ c ∷ d ∷ e ∷ f ∷ bs) h s kind number =
     ∙ ap (λ l. 1 ∷ (l ++ (f ∷ []))) (number-forth (b ∷ c ∷ d ∷ e ∷ f ∷ bs) (omega arith) (s .1))
     ∙ ap (λ x. x ∷ b ∷ c ∷ d ∷ e ∷ f ∷ []) (sym kind)
 
-pub record-forth : (n : ℕ) (bs : List ℕ) (es : List Entry) (k : ℕ) → Small bs → parsed n bs ≡ whole es k → recordOf n es ≡ take k bs
+record-forth : (n : ℕ) (bs : List ℕ) (es : List Entry) (k : ℕ) → Small bs → parsed n bs ≡ whole es k → recordOf n es ≡ take k bs
 unfolding recordOf
 record-forth n bs es k s e =
     let w = whole-within n bs es k e in
@@ -99,27 +102,81 @@ record-forth n bs es k s e =
     ∙ sym (take-add 6 (6 * length es) bs)
     ∙ ap (λ m. take m bs) (sym (w .size))
 
-abbrev Forth : ℕ → List ℕ → Opened → Type 0
-Forth n bs (good ws used) = take used bs ≡ fileFrom n ws
-Forth n bs (bad at why) = Unit {0}
+small-at : (bs : List ℕ) (i : ℕ) → Small bs → getD bs i 0 < 256
+small-at [] i s = omega arith
+small-at (b ∷ bs) zero s = s .0
+small-at (b ∷ bs) (suc i) s = small-at bs i (s .1)
 
-after-forth : (n : ℕ) (bs : List ℕ) (es : List Entry) (k : ℕ) (r : Opened) → recordOf n es ≡ take k bs → Forth (suc n) (drop k bs) r → Forth n bs (after es k r)
+number-small : (bs : List ℕ) → Small bs → of4 bs < 2 ^ 32
+unfolding of4
+number-small bs s = omega (arith, small-at bs 0 s, small-at bs 1 s, small-at bs 2 s, small-at bs 3 s)
+
+values-small : (n : ℕ) (bs : List ℕ) → Small bs → All (λ (e : Entry). e .value < 2 ^ 32) (entriesOf n bs)
+unfolding entriesOf entryOf
+values-small zero bs s = tt
+values-small (suc n) bs s = (number-small (drop 2 bs) (small-drop 2 bs s), values-small n (drop 6 bs) (small-drop 6 bs s))
+
+all-fine : (es : List Entry) → strays es ≡ false → All (λ (e : Entry). e .value < 2 ^ 32) es → All FineEntry es
+unfolding any
+all-fine [] keys values = tt
+all-fine (e ∷ es) keys values =
+    let k = or-parts (ltb 4095 (e .key)) (strays es) keys in
+    ((ltb-false 4095 (e .key) (k .0), values .0), all-fine es (k .1) (values .1))
+
+record-fine : (n : ℕ) (bs : List ℕ) (es : List Entry) (k : ℕ) → Small bs → parsed n bs ≡ whole es k → FineCommit es
+record-fine n bs es k s e =
+    let w = whole-within n bs es k e in
+    (w .few, all-fine es (w .keys) (subst (All (λ (e : Entry). e .value < 2 ^ 32)) (sym (w .reads)) (values-small (length es) (drop 6 bs) (small-drop 6 bs s))))
+
+record-as : (n : ℕ) (bs : List ℕ) (p : Reading) → Small bs → parsed n bs ≡ p → RecordIn n bs p
+record-as n bs (whole es k) s e = (sym (record-forth n bs es k s e), record-fine n bs es k s e)
+record-as n bs short s e = tt
+record-as n bs (faulty why) s e = tt
+
+-- bytes that fit their type
+all-small : (bs : List ℕ) → ((i : ℕ) → Fits w8 (getD bs i 0)) → Small bs
+all-small bs h = all-from-getD (λ b. b < 256) bs 0 (λ i l. omega (arith, h i))
+
+pub record-in : (n : ℕ) (bs : List ℕ) → ((i : ℕ) → Fits w8 (getD bs i 0)) → RecordIn n bs (parsed n bs)
+record-in n bs h = record-as n bs (parsed n bs) (all-small bs h) refl
+
+none-read : (n : ℕ) (bs : List ℕ) → n < 2 ^ 32 → Read n bs [] 0
 unfolding fileFrom
-after-forth n bs es k (good ws used) e h = take-add k used bs ∙ ap (λ l. take k bs ++ l) h ∙ ap (λ l. l ++ fileFrom (suc n) ws) (sym e)
-after-forth n bs es k (bad at why) e h = tt
+none-read n bs small = record { inside = omega arith; bytes = refl; fine = tt; few = omega (arith, small) }
 
-onward-forth : (n : ℕ) (bs : List ℕ) (p : Reading) (go : ℕ → Opened) → Small bs → parsed n bs ≡ p → ((k : ℕ) → Forth (suc n) (drop k bs) (go k)) → Forth n bs (onward n p go)
+after-read : (n : ℕ) (bs : List ℕ) (es : List Entry) (k : ℕ) (r : Opened) → Small bs → parsed n bs ≡ whole es k → ReadIn (suc n) (drop k bs) r → ReadIn n bs (after es k r)
 unfolding fileFrom
-onward-forth n bs (whole es k) go s e h =
-    cond-both (ltb (suc n) (2 ^ 32)) (after es k (go k)) (bad 0 WrongNumber) (Forth n bs)
-    (λ _. after-forth n bs es k (go k) (record-forth n bs es k s e) (h k)) (λ _. tt)
-onward-forth n bs short go s e h = refl
-onward-forth n bs (faulty why) go s e h = tt
+after-read n bs es k (good ws used) s e h =
+    let w = whole-within n bs es k e in
+    record {
+      inside = omega (arith, w .room, h .inside, length-drop k bs);
+      bytes = take-add k used bs ∙ ap (λ l. take k bs ++ l) (h .bytes) ∙ ap (λ l. l ++ fileFrom (suc n) ws) (sym (record-forth n bs es k s e));
+      fine = (record-fine n bs es k s e, h .fine);
+      few = omega (arith, h .few);
+    }
+after-read n bs es k (bad at why) s e h = tt
 
-turned-forth : (t n : ℕ) (bs : List ℕ) → Small bs → Forth n bs (turned t n bs)
-unfolding turned fileFrom
-turned-forth zero n bs s = refl
-turned-forth (suc t) n bs s = onward-forth n bs (parsed n bs) _ s refl (λ k. turned-forth t (suc n) (drop k bs) (small-drop k bs s))
+onward-read : (n : ℕ) (bs : List ℕ) (p : Reading) (go : ℕ → Opened) → n < 2 ^ 32 → Small bs → parsed n bs ≡ p →
+    ((k : ℕ) → suc n < 2 ^ 32 → ReadIn (suc n) (drop k bs) (go k)) → ReadIn n bs (onward n p go)
+onward-read n bs (whole es k) go small s e h =
+    cond-both (ltb (suc n) (2 ^ 32)) (after es k (go k)) (bad 0 WrongNumber) (ReadIn n bs)
+    (λ next. after-read n bs es k (go k) s e (h k (ltb-true (suc n) (2 ^ 32) next))) (λ _. tt)
+onward-read n bs short go small s e h = none-read n bs small
+onward-read n bs (faulty why) go small s e h = tt
+
+turned-read : (t n : ℕ) (bs : List ℕ) → n < 2 ^ 32 → Small bs → ReadIn n bs (turned t n bs)
+unfolding turned
+turned-read zero n bs small s = none-read n bs small
+turned-read (suc t) n bs small s = onward-read n bs (parsed n bs) _ small s refl (λ k next. turned-read t (suc n) (drop k bs) next (small-drop k bs s))
+
+pub read-in : (n : ℕ) (bs : List ℕ) → n < 2 ^ 32 → ((i : ℕ) → Fits w8 (getD bs i 0)) → ReadIn n bs (replayed n bs)
+read-in n bs small h = turned-read (length bs) n bs small (all-small bs h)
+
+read-as : (bs : List ℕ) (ws : List (List Entry)) (n : ℕ) → Small bs → opened bs ≡ good ws n → Read 0 bs ws n
+read-as bs ws n s e = subst (ReadIn 0 bs) e (turned-read (length bs) 0 bs (omega arith) s)
 
 pub canonical : Canonical
-canonical bs ws n s e = subst (Forth 0 bs) e (turned-forth (length bs) 0 bs s)
+canonical bs ws n s e = read-as bs ws n s e .bytes
+
+pub read-fine : ReadFine
+read-fine bs ws n s e = let r = read-as bs ws n s e in (omega (arith, r .few), r .fine)

@@ -12,10 +12,10 @@ use Rattle.std.specs.shelf.Lists.{All}
 use Rattle.std.proofs.shelf.Lists.{length-append, take-append-le, take-all, drop-at}
 use Rattle.std.proofs.shelf.Tests.{cases-lt, le-leb, lt-leb, cond-true, cond-false}
 use Rattle.model.specs.declared.Entry.{Entry}
-use Rattle.journal.specs.Records.{recordOf}
+use Rattle.journal.specs.Records.{recordOf, FineCommit}
 use Rattle.journal.specs.Parsing.{short, parsed}
 use Rattle.journal.specs.Files.{fileFrom, fileOf, Opened, good, after, replayed, wholeIn}
-use Rattle.journal.specs.Laws.{FineCommit, FileBack, CutAnywhere}
+use Rattle.journal.specs.Laws.{FileBack, CutAnywhere}
 use Rattle.journal.proofs.Places.{length-record}
 use Rattle.journal.proofs.Reading.{nothing-short}
 use Rattle.journal.proofs.Back.{record-back, record-short}

@@ -6,5 +6,6 @@ pub mod Reading
 pub mod Replaying
 pub mod Back
 pub mod Cuts
+pub mod Joins
 pub mod Pieces
 pub mod Canon

@@ -1,15 +1,17 @@
 -- A file of records, read from its start.
+use mathlib.Core.Path.{_≡_}
 use mathlib.Core.Bool.{cond}
 use mathlib.Core.List.{List, [], _∷_, _++_}
-use Prim.Native.Nat.{ℕ, zero, suc, _+_, _-_, _*_, _^_}
+use Prim.Native.Nat.{ℕ, zero, suc, _+_, _-_, _*_, _^_, _≤_, _<_}
 use lib.Dec.{leb, ltb}
-use lib.ListN.{length, drop}
+use lib.ListN.{length, take, drop}
+use Rattle.std.specs.shelf.Lists.{All}
 use Rattle.model.specs.declared.Entry.{Entry}
 use Rattle.journal.specs.declared.types.Fault.{Fault}
 use Rattle.journal.specs.declared.types.Fault.the-variants.{WrongNumber}
 use Rattle.journal.specs.declared.types.Survey.{Survey}
 use Rattle.journal.specs.declared.types.Survey.the-variants.{Good, Bad}
-use Rattle.journal.specs.Records.{recordOf}
+use Rattle.journal.specs.Records.{recordOf, FineCommit}
 use Rattle.journal.specs.Parsing.{Reading, whole, short, faulty, parsed}
 
 -- the records of these commits, the first with number n
@@ -67,3 +69,14 @@ onGood (bad at why) go = bad at why
 abbrev pub surveyed : ℕ → Opened → Survey
 surveyed n (good ws used) = Good used (n + length ws)
 surveyed n (bad at why) = Bad at why
+
+-- the commits that were read from number n on: their records are the first bytes, and they can be
+pub record Read (n : ℕ) (bs : List ℕ) (ws : List (List Entry)) (used : ℕ) : Type 0 where
+  pub inside : used ≤ length bs
+  pub bytes : take used bs ≡ fileFrom n ws
+  pub fine : All FineCommit ws
+  pub few : n + length ws < 2 ^ 32
+
+abbrev pub ReadIn : ℕ → List ℕ → Opened → Type 0
+ReadIn n bs (good ws used) = Read n bs ws used
+ReadIn n bs (bad at why) = Unit {0}

@@ -1,20 +1,13 @@
 -- What is promised of records and files.
 use mathlib.Core.Path.{_≡_}
 use mathlib.Core.List.{List, [], _∷_, _++_}
-use Prim.Native.Nat.{ℕ, _+_, _^_, _≤_, _<_}
+use Prim.Native.Nat.{ℕ, _+_, _^_, _<_}
 use lib.ListN.{length, take, drop}
 use Rattle.std.specs.shelf.Lists.{All}
 use Rattle.model.specs.declared.Entry.{Entry}
-use Rattle.journal.specs.Records.{recordOf}
+use Rattle.journal.specs.Records.{recordOf, FineCommit}
 use Rattle.journal.specs.Parsing.{whole, parsed}
-use Rattle.journal.specs.Files.{fileOf, Opened, good, bad, replayed, opened, wholeIn, behind, onGood}
-
-abbrev pub FineEntry : Entry → Type 0
-FineEntry e = (e .key ≤ 4095) × (e .value < 2 ^ 32)
-
--- the writes of a commit that can be
-abbrev pub FineCommit : List Entry → Type 0
-FineCommit es = (length es ≤ 64) × All FineEntry es
+use Rattle.journal.specs.Files.{fileFrom, fileOf, Opened, good, bad, replayed, opened, wholeIn, behind, onGood}
 
 -- commits that can be: never more than 4,294,967,295
 abbrev pub FineCommits : List (List Entry) → Type 0
@@ -42,3 +35,11 @@ InPieces = (n : ℕ) (a b : List ℕ) →
 -- the bytes that are read as commits are those of the commits' records
 abbrev pub Canonical : Type 0
 Canonical = (bs : List ℕ) (ws : List (List Entry)) (n : ℕ) → All (λ b. b < 256) bs → opened bs ≡ good ws n → take n bs ≡ fileOf ws
+
+-- bytes are read as commits that can be
+abbrev pub ReadFine : Type 0
+ReadFine = (bs : List ℕ) (ws : List (List Entry)) (n : ℕ) → All (λ b. b < 256) bs → opened bs ≡ good ws n → FineCommits ws
+
+-- a file goes on with the records of what comes after
+abbrev pub FilesJoin : Type 0
+FilesJoin = (n : ℕ) (ws vs : List (List Entry)) → fileFrom n (ws ++ vs) ≡ fileFrom n ws ++ fileFrom (n + length ws) vs

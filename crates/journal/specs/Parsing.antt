@@ -1,15 +1,18 @@
 -- What a reader makes of the bytes at the front of a file.
+use mathlib.Core.Path.{_≡_}
 use mathlib.Core.Bool.{cond}
 use mathlib.Core.List.{List, [], _∷_, _++_}
 use Prim.Native.Nat.{ℕ, zero, suc, _+_, _*_}
 use lib.Dec.{leb, ltb, eqb}
-use lib.ListN.{length, drop, getD}
+use lib.ListN.{length, take, drop, getD}
+use Rattle.std.specs.declared.option.Option.{Option}
+use Rattle.std.specs.declared.option.Option.the-variants.{Some, None}
 use Rattle.model.specs.declared.Entry.{Entry}
 use Rattle.journal.specs.declared.types.Fault.{Fault}
 use Rattle.journal.specs.declared.types.Fault.the-variants.{UnknownKind, WrongNumber, TooManyWrites, KeyOutOfBounds}
 use Rattle.journal.specs.declared.types.Parsed.{Parsed}
 use Rattle.journal.specs.declared.types.Parsed.the-variants.{Whole, Short, Bad}
-use Rattle.journal.specs.Records.{strays}
+use Rattle.journal.specs.Records.{recordOf, strays, FineCommit}
 
 -- the number that the first two or four bytes write
 unfoldable pub of2 : List ℕ → ℕ
@@ -66,3 +69,14 @@ abbrev pub laid : Reading → List Entry → List Entry
 laid (whole es k) xs = es ++ drop (length es) xs
 laid short xs = xs
 laid (faulty why) xs = xs
+
+-- where a record is whole, its bytes are those of its number and its writes, and a commit can have these
+abbrev pub RecordIn : ℕ → List ℕ → Reading → Type 0
+RecordIn n bs (whole es k) = (take k bs ≡ recordOf n es) × FineCommit es
+RecordIn n bs short = Unit {0}
+RecordIn n bs (faulty why) = Unit {0}
+
+-- what an encoder has written is read as what it was given, and that can be
+abbrev pub ReadBack : ℕ → List Entry → List ℕ → Option ℕ → Type 0
+ReadBack n es after (Some k) = (parsed n after ≡ whole es k) × FineCommit es
+ReadBack n es after None = Unit {0}

@@ -3,10 +3,11 @@
 use mathlib.Core.Path.{_≡_}
 use mathlib.Core.Bool.{Bool, true, false, cond, _&&_, not}
 use mathlib.Core.List.{List, [], _∷_, _++_}
-use Prim.Native.Nat.{ℕ, _+_, _*_, _/_, _%_}
+use Prim.Native.Nat.{ℕ, _+_, _*_, _/_, _%_, _^_, _≤_, _<_}
 use lib.Dec.{leb, ltb}
 use lib.ListN.{length, take, drop}
 use Rattle.std.specs.Joined.{joined}
+use Rattle.std.specs.shelf.Lists.{All}
 use Rattle.std.specs.declared.option.Option.{Option}
 use Rattle.std.specs.declared.option.Option.the-variants.{Some, None}
 use Rattle.model.specs.declared.Entry.{Entry}
@@ -35,6 +36,13 @@ written at bs xs = take at xs ++ (bs ++ drop (at + length bs) xs)
 -- a key is above 4,095
 abbrev pub strays : List Entry → Bool
 strays es = any (λ (e : Entry). ltb 4095 (e .key)) es
+
+abbrev pub FineEntry : Entry → Type 0
+FineEntry e = (e .key ≤ 4095) × (e .value < 2 ^ 32)
+
+-- the writes of a commit that can be
+abbrev pub FineCommit : List Entry → Type 0
+FineCommit es = (length es ≤ 64) × All FineEntry es
 
 -- a record with these writes can be, and so many bytes have room for it
 unfoldable pub fits : List Entry → ℕ → Bool

@@ -4,11 +4,12 @@ ghost use mathlib.Core.List.{[]};
 ghost use Prim.Native.Nat.{_+_};
 ghost use lib.Dec.{leb};
 ghost use lib.ListN.{length};
-ghost use Rattle.journal.specs.Held.{heldOf, roomOf, Appended};
+ghost use Rattle.journal.specs.Held.{heldOf, roomOf, Appended, Gathered};
+ghost use Rattle.journal.specs.Records.{FineCommit};
+ghost use mathlib.Core.Bool.{true};
+use crate::layout::LARGEST_RECORD;
 use crate::writer::encode;
 use model::Entry;
-
-const LARGEST_RECORD: usize = 390;
 
 // Lent memory whose first len bytes are records.
 #[derive(Drop)]
@@ -29,9 +30,12 @@ impl<'a> Journal<'a> {
 
 impl Journal<'_> {
     // The commit's record goes behind the others; false, and all is as it was, where it does not fit, has more
-    // than 64 writes or a key above 4,095.
+    // than 64 writes or a key above 4,095. Where the records so far are a file up to this number, they are one
+    // with the commit.
     pub fn append(&mut self, number: u32, writes: &[Entry]) -> bool
-        ensures { λ r. ⌜ Appended number (now (writes .entry)) (now (self .entry)) (now (self .exit)) r ⌝ }
+        ensures bytes { λ r. ⌜ Appended number (now (writes .entry)) (now (self .entry)) (now (self .exit)) r ⌝ }
+        ensures file { λ r. ⌜ Gathered number (now (writes .entry)) (now (self .entry)) (now (self .exit)) r ⌝ }
+        ensures fine { λ r. ⌜ (r ≡ true → FineCommit (now (writes .entry))) ⌝ }
     {
         let len = self.len;
         if len > self.bytes.len() {

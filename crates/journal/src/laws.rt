@@ -1,5 +1,5 @@
 // What records and files promise.
-ghost use Rattle.journal.specs.Laws.{RecordBack, FileBack, CutAnywhere, InPieces, Canonical};
+ghost use Rattle.journal.specs.Laws.{RecordBack, FileBack, CutAnywhere, InPieces, Canonical, ReadFine, FilesJoin};
 
 // The laws stand: a caller has them for any commits and bytes.
 pub fn laws_stand() -> u8
@@ -8,6 +8,8 @@ pub fn laws_stand() -> u8
     ensures cuts { λ _. ⌜ CutAnywhere ⌝ }
     ensures pieces { λ _. ⌜ InPieces ⌝ }
     ensures canonical { λ _. ⌜ Canonical ⌝ }
+    ensures fine { λ _. ⌜ ReadFine ⌝ }
+    ensures join { λ _. ⌜ FilesJoin ⌝ }
 {
     0
 }

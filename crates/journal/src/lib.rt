@@ -2,6 +2,7 @@
 mod files;
 mod gather;
 mod laws;
+mod layout;
 mod reader;
 mod types;
 mod writer;

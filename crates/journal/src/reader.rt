@@ -4,16 +4,11 @@ ghost use mathlib.Core.List.{_++_};
 ghost use Prim.Native.Nat.{_+_, _*_, _≤_, _<_};
 ghost use lib.ListN.{length, drop};
 ghost use Rattle.journal.specs.Records.{strays};
-ghost use Rattle.journal.specs.Parsing.{of2, of4, entryOf, entriesOf, parsed, outlined, laid};
+ghost use Rattle.journal.specs.Parsing.{of2, of4, entryOf, entriesOf, parsed, outlined, laid, RecordIn};
+use crate::layout::*;
 use crate::types::Fault;
 use crate::types::Parsed;
 use model::Entry;
-
-const KIND: u8 = 1;
-
-const MOST_KEY: u16 = 4095;
-
-const MOST_WRITES: usize = 64;
 
 fn number_at(bytes: &[u8], at: usize) -> u32
     requires { ⌜ at + 4 ≤ length (now bytes) ⌝ }
@@ -22,18 +17,18 @@ fn number_at(bytes: &[u8], at: usize) -> u32
     u32::from_be_bytes([bytes[at], bytes[at + 1], bytes[at + 2], bytes[at + 3]])
 }
 
-fn key_at(bytes: &[u8], at: usize) -> u16
+fn key_at(bytes: &[u8], at: usize) -> u32
     requires { ⌜ at + 2 ≤ length (now bytes) ⌝ }
     ensures { λ r. ⌜ r ≡ of2 (drop at (now (bytes .entry))) ⌝ }
 {
-    u16::from_be_bytes([bytes[at], bytes[at + 1]])
+    u16::from_be_bytes([bytes[at], bytes[at + 1]]) as u32
 }
 
 fn entry_at(bytes: &[u8], at: usize) -> Entry
     requires { ⌜ at + 6 ≤ length (now bytes) ⌝ }
     ensures { λ r. ⌜ r ≡ entryOf (drop at (now (bytes .entry))) ⌝ }
 {
-    let key = key_at(bytes, at) as u32;
+    let key = key_at(bytes, at);
     Entry {
         key,
         value: number_at(bytes, at + 2),
@@ -46,7 +41,7 @@ fn stray(bytes: &[u8], count: usize) -> bool
     ensures { λ r. ⌜ r ≡ strays (entriesOf count (drop 6 (now (bytes .entry)))) ⌝ }
 {
     for i in 0..count {
-        if key_at(bytes, 6 + 6 * i) > MOST_KEY {
+        if key_at(bytes, HEAD + WRITE * i) > MOST_KEY {
             return true;
         }
     }
@@ -60,7 +55,7 @@ fn lay(bytes: &[u8], count: usize, writes: &mut [Entry])
     ensures { λ _. ⌜ now (writes .exit) ≡ entriesOf count (drop 6 (now (bytes .entry))) ++ drop count (now (writes .entry)) ⌝ }
 {
     for i in 0..count {
-        writes[i] = entry_at(bytes, 6 + 6 * i);
+        writes[i] = entry_at(bytes, HEAD + WRITE * i);
     }
 }
 
@@ -74,15 +69,16 @@ pub fn front(bytes: &[u8], number: u32) -> Parsed
     if bytes[0] != KIND {
         return Parsed::Bad(Fault::UnknownKind);
     }
-    if bytes.len() < 6 {
+    if bytes.len() < HEAD {
         return Parsed::Short;
     }
     let count = bytes[5] as usize;
-    let size = 6 + 6 * count;
+    let size = HEAD + WRITE * count;
     if bytes.len() < size {
         return Parsed::Short;
     }
-    if number_at(bytes, 1) != number {
+    let found = number_at(bytes, 1);
+    if found != number {
         return Parsed::Bad(Fault::WrongNumber);
     }
     if count > MOST_WRITES {
@@ -95,9 +91,11 @@ pub fn front(bytes: &[u8], number: u32) -> Parsed
 }
 
 // The same, and its writes go to the front of writes where it is whole; all else there is as it was.
+// A whole record has the bytes that `encode` writes.
 pub fn decode(bytes: &[u8], number: u32, writes: &mut [Entry; 64]) -> Parsed
     ensures answer { λ r. ⌜ r ≡ outlined (parsed number (now (bytes .entry))) ⌝ }
     ensures writes { λ _. ⌜ now (writes .exit) ≡ laid (parsed number (now (bytes .entry))) (now (writes .entry)) ⌝ }
+    ensures whole { λ _. ⌜ RecordIn number (now (bytes .entry)) (parsed number (now (bytes .entry))) ⌝ }
 {
     let answer = front(bytes, number);
     if let Parsed::Whole { count, .. } = answer {

@@ -4,14 +4,11 @@ ghost use mathlib.Core.Bool.{false};
 ghost use Prim.Native.Nat.{_+_, _*_, _≤_, _<_};
 ghost use lib.ListN.{length};
 ghost use Rattle.std.specs.Joined.{joined};
-ghost use Rattle.journal.specs.Records.{written, entryBytes, headBytes, strays, Encoded};
+ghost use Rattle.journal.specs.Records.{written, entryBytes, headBytes, strays, FineEntry, Encoded};
+ghost use Rattle.journal.specs.Parsing.{ReadBack};
+ghost use Rattle.std.specs.shelf.Lists.{All};
+use crate::layout::*;
 use model::Entry;
-
-const KIND: u8 = 1;
-
-const MOST_KEY: u32 = 4095;
-
-const MOST_WRITES: usize = 64;
 
 // Writes bytes at a place.
 fn put(out: &mut [u8], at: usize, bytes: &[u8])
@@ -24,7 +21,8 @@ fn put(out: &mut [u8], at: usize, bytes: &[u8])
 fn put_entry(out: &mut [u8], at: usize, e: Entry)
     requires room { ⌜ at + 6 ≤ length (now out) ⌝ }
     requires key { ⌜ e .key ≤ 4095 ⌝ }
-    ensures { λ _. ⌜ now (out .exit) ≡ written at (entryBytes e) (now (out .entry)) ⌝ }
+    ensures bytes { λ _. ⌜ now (out .exit) ≡ written at (entryBytes e) (now (out .entry)) ⌝ }
+    ensures fine { λ _. ⌜ FineEntry e ⌝ }
 {
     let key = e.key as u16;
     put(out, at, &key.to_be_bytes());
@@ -34,12 +32,13 @@ fn put_entry(out: &mut [u8], at: usize, e: Entry)
 fn put_entries(out: &mut [u8], at: usize, entries: &[Entry])
     requires room { ⌜ at + 6 * length (now entries) ≤ length (now out) ⌝ }
     requires keys { ⌜ strays (now entries) ≡ false ⌝ }
-    ensures { λ _. ⌜ now (out .exit) ≡ written at (joined entryBytes (now (entries .entry))) (now (out .entry)) ⌝ }
+    ensures bytes { λ _. ⌜ now (out .exit) ≡ written at (joined entryBytes (now (entries .entry))) (now (out .entry)) ⌝ }
+    ensures fine { λ _. ⌜ All FineEntry (now (entries .entry)) ⌝ }
 {
     let mut place = at;
     for e in entries {
         put_entry(out, place, *e);
-        place += 6;
+        place += WRITE;
     }
 }
 
@@ -66,15 +65,16 @@ fn stray(entries: &[Entry]) -> bool
 }
 
 // The commit's record goes to the start of out, and the answer is how many bytes it has. None, and nothing is changed,
-// where it does not fit, has more than 64 writes or a key above 4,095.
+// where it does not fit, has more than 64 writes or a key above 4,095. What is written is read back.
 pub fn encode(out: &mut [u8], number: u32, writes: &[Entry]) -> Option<usize>
-    ensures { λ r. ⌜ Encoded number (now (writes .entry)) (now (out .entry)) (now (out .exit)) r ⌝ }
+    ensures bytes { λ r. ⌜ Encoded number (now (writes .entry)) (now (out .entry)) (now (out .exit)) r ⌝ }
+    ensures back { λ r. ⌜ ReadBack number (now (writes .entry)) (now (out .exit)) r ⌝ }
 {
     let count = writes.len();
     if count > MOST_WRITES {
         return None;
     }
-    let size = 6 + 6 * count;
+    let size = HEAD + WRITE * count;
     if out.len() < size {
         return None;
     }
@@ -82,6 +82,6 @@ pub fn encode(out: &mut [u8], number: u32, writes: &[Entry]) -> Option<usize>
         return None;
     }
     put_head(out, number, count as u8);
-    put_entries(out, 6, writes);
+    put_entries(out, HEAD, writes);
     Some(size)
 }

@@ -11,6 +11,7 @@ use Rattle.journal.specs.Parsing.{Reading, whole, short, parsed, outlined}
 use Rattle.journal.specs.Files.{surveyed, replayed}
 use Rattle.journal.proofs.Reading.{Within, whole-within, outline-whole, outline-bad, outline-short}
 use Rattle.journal.proofs.Replaying.{Sofar, start, at-end, at-bad, one-more, replayed-faulty, replayed-last}
+use Rattle.journal.proofs.Canon.{read-in}
 use Rattle.journal.proofs.files.survey.Needs as need
 use Rattle.journal.proofs.files.survey.Needs.{In-Whole}
 
@@ -41,7 +42,10 @@ returns-in-Bad c =
     let next = c .loop-size .next in
     let rest = drop at (c .args .bytes .now) in
     let e = outline-bad (parsed next rest) (c .in-Bad .why) (c .in-Bad .ensures tt ∙ ap (λ l. outlined (parsed next l)) (take-rest (c .args .bytes .now) at)) in
-    ap (surveyed (c .args .number)) (sym (at-bad (c .args .number) (c .args .bytes .now) at next (c .loop-size .inv .0) (c .in-Bad .why) (replayed-faulty next rest (c .in-Bad .why) e)))
+    record {
+      answer = ap (surveyed (c .args .number)) (sym (at-bad (c .args .number) (c .args .bytes .now) at next (c .loop-size .inv .0) (c .in-Bad .why) (replayed-faulty next rest (c .in-Bad .why) e)));
+      records = read-in (c .args .number) (c .args .bytes .now) (omega arith) (c .typed .bytes);
+    }
 
 pub returns-then-next : need.returns-then-next
 returns-then-next c =
@@ -49,9 +53,13 @@ returns-then-next c =
     let next = c .loop-size .next in
     let rest = drop at (c .args .bytes .now) in
     let f = found (need.at·returns-then-next c .In-Whole) in
-    ap (surveyed (c .args .number))
-    (sym (at-bad (c .args .number) (c .args .bytes .now) at next (c .loop-size .inv .0) WrongNumber
-    (replayed-last next rest (f .0) (c .in-Whole .size) (omega (arith, c .if-next .taken)) (f .1))))
+    record {
+      answer =
+          ap (surveyed (c .args .number))
+          (sym (at-bad (c .args .number) (c .args .bytes .now) at next (c .loop-size .inv .0) WrongNumber
+          (replayed-last next rest (f .0) (c .in-Whole .size) (omega (arith, c .if-next .taken)) (f .1))));
+      records = read-in (c .args .number) (c .args .bytes .now) (omega arith) (c .typed .bytes);
+    }
 
 pub add-next : need.add-next
 add-next c = let b = below (c .loop-size .next) (c .loop-size .inv .1) (c .if-next .left) in omega (arith, b)
@@ -76,4 +84,7 @@ returns c =
     let so = c .loop-size .inv .0 in
     let e : c .front-answer .result ≡ outlined (parsed next rest) = c .front-answer .ensures ∙ ap (λ l. outlined (parsed next l)) (take-rest (c .args .bytes .now) at) in
     let s = outline-short (parsed next rest) (λ k n f. c .in-rest .not-Whole k n (e ∙ f)) (λ why f. c .in-rest-answer .not-Bad why (e ∙ f)) in
-    ap (Good at) (so .number) ∙ ap (surveyed (c .args .number)) (sym (at-end (c .args .number) (c .args .bytes .now) at next so s))
+    record {
+      answer = ap (Good at) (so .number) ∙ ap (surveyed (c .args .number)) (sym (at-end (c .args .number) (c .args .bytes .now) at next so s));
+      records = read-in (c .args .number) (c .args .bytes .now) (omega arith) (c .typed .bytes);
+    }

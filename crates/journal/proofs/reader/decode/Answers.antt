@@ -5,6 +5,7 @@ use lib.ListN.{length, drop}
 use Rattle.model.specs.declared.Entry.{Entry}
 use Rattle.journal.specs.Parsing.{entriesOf, Reading, whole, parsed, laid}
 use Rattle.journal.proofs.Reading.{Within, whole-within, outline-whole}
+use Rattle.journal.proofs.Canon.{record-in}
 use Rattle.journal.proofs.reader.decode.Needs as need
 use Rattle.journal.proofs.reader.decode.Needs.{In-Whole}
 
@@ -29,4 +30,5 @@ returns-in-Whole c =
           ∙ ap (λ m. entriesOf m (drop 6 (c .args .bytes .now)) ++ drop m (c .args .writes .now)) (sym (f .2))
           ∙ ap (λ l. l ++ drop (length (f .0)) (c .args .writes .now)) (sym (w .reads))
           ∙ ap (λ r. laid r (c .args .writes .now)) (sym (f .1));
+      whole = record-in (c .args .number) (c .args .bytes .now) (c .typed .bytes);
     }

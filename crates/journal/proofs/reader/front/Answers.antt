@@ -13,17 +13,17 @@ pub returns-then-bytes-ne-KIND : need.returns-then-bytes-ne-KIND
 unfolding parsed
 returns-then-bytes-ne-KIND c = grind (arith, tells)
 
-pub returns-then-bytes-lt6 : need.returns-then-bytes-lt6
+pub returns-then-bytes-lt-HEAD : need.returns-then-bytes-lt-HEAD
 unfolding parsed
-returns-then-bytes-lt6 c = grind (arith, tells)
+returns-then-bytes-lt-HEAD c = grind (arith, tells)
 
 pub returns-then-bytes-size : need.returns-then-bytes-size
 unfolding parsed
 returns-then-bytes-size c = grind (arith, tells)
 
-pub returns-then-number-at-number : need.returns-then-number-at-number
+pub returns-then-found-number : need.returns-then-found-number
 unfolding parsed checked
-returns-then-number-at-number c = grind (arith, tells)
+returns-then-found-number c = grind (arith, tells)
 
 pub returns-then-count-gt-MOST-WRITES : need.returns-then-count-gt-MOST-WRITES
 unfolding parsed checked
