@@ -52,7 +52,7 @@ entries-back (e ∷ es) rest fine =
     ap (λ x. x ∷ entriesOf (length es) (joined entryBytes es ++ rest)) (entry-back e (joined entryBytes es ++ rest) (fine .0))
     ∙ ap (λ l. e ∷ l) (entries-back es rest (fine .1))
 
-none-stray : (es : List Entry) → All FineEntry es → strays es ≡ false
+pub none-stray : (es : List Entry) → All FineEntry es → strays es ≡ false
 unfolding any
 none-stray [] fine = refl
 none-stray (e ∷ es) fine = or-from (ltb 4095 (e .key)) (strays es) (le-ltb 4095 (e .key) (fine .0 .0)) (none-stray es (fine .1))

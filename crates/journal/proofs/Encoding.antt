@@ -17,7 +17,7 @@ use Rattle.journal.specs.Records.{written, recordOf, strays, fits, Encoded}
 use Rattle.journal.proofs.Places.{length-record}
 
 module _ (es : List Entry) (room : ℕ) where
-  it-fits : length es ≤ 64 → 6 + 6 * length es ≤ room → strays es ≡ false → fits es room ≡ true
+  pub it-fits : length es ≤ 64 → 6 + 6 * length es ≤ room → strays es ≡ false → fits es room ≡ true
   unfolding fits
   it-fits few h keys = and-from _ _ (le-leb (length es) 64 few) (and-from _ _ (le-leb (6 + 6 * length es) room h) (not-from-false (strays es) keys))
 

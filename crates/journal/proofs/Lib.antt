@@ -9,3 +9,4 @@ pub mod Cuts
 pub mod Joins
 pub mod Pieces
 pub mod Canon
+pub mod Examples

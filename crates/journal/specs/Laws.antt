@@ -2,11 +2,13 @@
 use mathlib.Core.Path.{_≡_}
 use mathlib.Core.List.{List, [], _∷_, _++_}
 use Prim.Native.Nat.{ℕ, _+_, _^_, _<_}
-use lib.ListN.{length, take, drop}
+use lib.ListN.{length, take, drop, replicate}
 use Rattle.std.specs.shelf.Lists.{All}
 use Rattle.model.specs.declared.Entry.{Entry}
+use Rattle.journal.specs.declared.types.Fault.{Fault}
+use Rattle.journal.specs.declared.types.Fault.the-variants.{UnknownKind, WrongNumber, TooManyWrites, KeyOutOfBounds}
 use Rattle.journal.specs.Records.{recordOf, FineCommit}
-use Rattle.journal.specs.Parsing.{whole, parsed}
+use Rattle.journal.specs.Parsing.{Reading, whole, short, faulty, parsed}
 use Rattle.journal.specs.Files.{fileFrom, fileOf, Opened, good, bad, replayed, opened, wholeIn, behind, onGood}
 
 -- commits that can be: never more than 4,294,967,295
@@ -43,3 +45,18 @@ ReadFine = (bs : List ℕ) (ws : List (List Entry)) (n : ℕ) → All (λ b. b <
 -- a file goes on with the records of what comes after
 abbrev pub FilesJoin : Type 0
 FilesJoin = (n : ℕ) (ws vs : List (List Entry)) → fileFrom n (ws ++ vs) ≡ fileFrom n ws ++ fileFrom (n + length ws) vs
+
+-- some records byte by byte, and a reading of each kind
+pub record Cases : Type 0 where
+  pub empty : recordOf 0 [] ≡ 1 ∷ 0 ∷ 0 ∷ 0 ∷ 0 ∷ 0 ∷ []
+  pub one : recordOf 66051 (record { key = 4094; value = 305419896 } ∷ []) ≡ 1 ∷ 0 ∷ 1 ∷ 2 ∷ 3 ∷ 1 ∷ 15 ∷ 254 ∷ 18 ∷ 52 ∷ 86 ∷ 120 ∷ []
+  pub read : parsed 2 (1 ∷ 0 ∷ 0 ∷ 0 ∷ 2 ∷ 1 ∷ 0 ∷ 7 ∷ 0 ∷ 0 ∷ 0 ∷ 9 ∷ 1 ∷ []) ≡ whole (record { key = 7; value = 9 } ∷ []) 12
+  pub none : parsed 0 [] ≡ short
+  pub cut-head : parsed 0 (1 ∷ 9 ∷ 9 ∷ 9 ∷ 9 ∷ []) ≡ short
+  pub cut-write : parsed 0 (1 ∷ 9 ∷ 9 ∷ 9 ∷ 9 ∷ 1 ∷ 99 ∷ 0 ∷ 0 ∷ 0 ∷ 0 ∷ []) ≡ short
+  pub kind : parsed 0 (2 ∷ []) ≡ faulty UnknownKind
+  pub number : parsed 1 (1 ∷ 0 ∷ 0 ∷ 0 ∷ 2 ∷ 0 ∷ []) ≡ faulty WrongNumber
+  pub writes : parsed 0 (1 ∷ 0 ∷ 0 ∷ 0 ∷ 0 ∷ 65 ∷ replicate 390 255) ≡ faulty TooManyWrites
+  pub key : parsed 0 (1 ∷ 0 ∷ 0 ∷ 0 ∷ 0 ∷ 1 ∷ 16 ∷ 0 ∷ 0 ∷ 0 ∷ 0 ∷ 0 ∷ []) ≡ faulty KeyOutOfBounds
+  pub file : opened (1 ∷ 0 ∷ 0 ∷ 0 ∷ 0 ∷ 0 ∷ 1 ∷ 0 ∷ 0 ∷ 0 ∷ 1 ∷ 0 ∷ 1 ∷ 0 ∷ []) ≡ good ([] ∷ [] ∷ []) 12
+  pub bad-file : opened (1 ∷ 0 ∷ 0 ∷ 0 ∷ 0 ∷ 0 ∷ 1 ∷ 0 ∷ 0 ∷ 0 ∷ 0 ∷ 0 ∷ []) ≡ bad 6 WrongNumber

@@ -4,7 +4,7 @@ ghost use mathlib.Core.List.{[]};
 ghost use Prim.Native.Nat.{_+_};
 ghost use lib.Dec.{leb};
 ghost use lib.ListN.{length};
-ghost use Rattle.journal.specs.Held.{heldOf, roomOf, Appended, Gathered};
+ghost use Rattle.journal.specs.Held.{heldOf, roomOf, Appended, Gathered, RoomForAny};
 ghost use Rattle.journal.specs.Records.{FineCommit};
 ghost use mathlib.Core.Bool.{true};
 use crate::layout::LARGEST_RECORD;
@@ -55,9 +55,10 @@ impl Journal<'_> {
         self.bytes.len().saturating_sub(self.len)
     }
 
-    // Whether there is room for any record.
+    // Whether there is room for the record of any commit that can be.
     pub fn has_room(&self) -> bool
-        ensures { λ r. ⌜ r ≡ leb 390 (roomOf (now (self .entry))) ⌝ }
+        ensures room { λ r. ⌜ r ≡ leb 390 (roomOf (now (self .entry))) ⌝ }
+        ensures any { λ r. ⌜ (r ≡ true → RoomForAny (now (self .entry))) ⌝ }
     {
         self.free() >= LARGEST_RECORD
     }

@@ -1,5 +1,5 @@
 // What records and files promise.
-ghost use Rattle.journal.specs.Laws.{RecordBack, FileBack, CutAnywhere, InPieces, Canonical, ReadFine, FilesJoin};
+ghost use Rattle.journal.specs.Laws.{RecordBack, FileBack, CutAnywhere, InPieces, Canonical, ReadFine, FilesJoin, Cases};
 
 // The laws stand: a caller has them for any commits and bytes.
 pub fn laws_stand() -> u8
@@ -10,6 +10,7 @@ pub fn laws_stand() -> u8
     ensures canonical { λ _. ⌜ Canonical ⌝ }
     ensures fine { λ _. ⌜ ReadFine ⌝ }
     ensures join { λ _. ⌜ FilesJoin ⌝ }
+    ensures cases { λ _. ⌜ Cases ⌝ }
 {
     0
 }
