@@ -87,16 +87,31 @@ unknown-named w a b c d h = pick-none w names (each a b c d) h
 named-unknown : (w a b c d : List ℕ) → asked w a b c d ≡ Unknown → any (sameBytes w) names ≡ false
 named-unknown w a b c d h =
     let slot : Bool = isSome (numeral a) in
-    pick-known w names (each a b c d) refl
-    (judged-known (Begin (part a) (levelOf b)) slot (not (missing b) && missing c),
-    (judged-known (Read (part a) (part b) (narrowed (numeral c) (part b + 1))) slot (isSome (numeral b) && (isSome (numeral c) && missing d)),
-    (judged-known (Write (part a) (part b) (part c)) slot (isSome (numeral b) && (fitting (numeral c) && missing d)),
-    (judged-known (Commit (part a)) slot (missing b),
-    (judged-known (Abort (part a)) slot (missing b),
-    (judged-known Sweep true (missing a),
-    (judged-known Sync true (missing a),
-    (judged-known Stop true (missing a),
-    (judged-known Show true (missing a), tt))))))))) h
+    pick-known w names (each a b c d) refl (
+      judged-known (Begin (part a) (levelOf b)) slot (not (missing b) && missing c),
+      (
+        judged-known (Read (part a) (part b) (narrowed (numeral c) (part b + 1))) slot (isSome (numeral b) && (isSome (numeral c) && missing d)),
+        (
+          judged-known (Write (part a) (part b) (part c)) slot (isSome (numeral b) && (fitting (numeral c) && missing d)),
+          (
+            judged-known (Commit (part a)) slot (missing b),
+            (
+              judged-known (Abort (part a)) slot (missing b),
+              (
+                judged-known Sweep true (missing a),
+                (
+                  judged-known Sync true (missing a),
+                  (
+                    judged-known Stop true (missing a),
+                    (judged-known Show true (missing a), tt),
+                  ),
+                ),
+              ),
+            ),
+          ),
+        ),
+      ),
+    ) h
 
 unknown-words : (w : List ℕ) (ws : List (List ℕ)) → any (sameBytes w) names ≡ false → askedOf (w ∷ ws) ≡ Unknown
 unfolding askedOf
