@@ -4,3 +4,4 @@ pub mod Pairs
 pub mod Splits
 pub mod Digits
 pub mod Trips
+pub mod Lined

@@ -4,22 +4,28 @@ use mathlib.Core.Bool.{Bool, true, false, cond}
 use mathlib.Core.List.{List, [], _∷_, _++_}
 use Prim.Native.Nat.{ℕ, _+_, _-_, _*_, _^_, _<_, min}
 use lib.Chars.{codes}
+use lib.Dec.{eqb}
 use lib.ListN.{length}
 use Rattle.std.specs.declared.option.Option.{Option}
 use Rattle.std.specs.declared.option.Option.the-variants.{Some, None}
 use Rattle.std.specs.shelf.Lists.{All}
 use Rattle.std.specs.shelf.Text.{allDigits}
+use Rattle.std.specs.Of.Vec.{vec-items}
 use Rattle.std.specs.Written.{decimal}
 use Rattle.model.specs.Lists.{any}
 use Rattle.model.specs.declared.Level.{Level}
 use Rattle.model.specs.declared.Level.the-variants.{Latest, Snapshot, Serial}
 use Rattle.model.specs.declared.Call.{Call}
 use Rattle.model.specs.declared.Call.the-variants.{Begin, Read, Write, Commit, Abort, Sweep, Sync, Stop, Show}
+use Rattle.model.specs.declared.Entry.{Entry}
+use Rattle.model.specs.declared.Answer.{Answer}
+use Rattle.model.specs.declared.Answer.the-variants.{Done, Found, Committed, Shown, Refused}
 use Rattle.model.specs.declared.Request.{Request}
 use Rattle.model.specs.declared.Request.the-variants.{Whole, Unknown}
 use Rattle.lines.specs.Words.{blank, unended}
 use Rattle.lines.specs.Numbers.{numeral}
 use Rattle.lines.specs.Requests.{parsed}
+use Rattle.lines.specs.Said.{textOf}
 
 -- the word, unless it is empty
 abbrev pub ended : List ℕ → List (List ℕ)
@@ -128,3 +134,18 @@ abbrev pub RoundTrip : Type 0
 RoundTrip =
     ((c : Call) (s : List ℕ) → Sayable c → lineWords s ≡ spelt c → parsed s ≡ Whole c)
     × ((c : Call) → Sayable c → parsed (spaced (spelt c)) ≡ Whole c)
+
+-- a line feed stands at the end, and nowhere else
+abbrev pub Line : List ℕ → Type 0
+Line t = (s : List ℕ) × (t ≡ s ++ 10 ∷ []) × (any (λ (b : ℕ). eqb b 10) s ≡ false)
+
+abbrev pub InLine : Answer → Type 0
+InLine Done = textOf Done ≡ []
+InLine (Found v) = All (λ (e : Entry). (e .key < 2 ^ 32) × (e .value < 2 ^ 32)) (vec-items v) → Line (textOf (Found v))
+InLine (Committed n) = n < 2 ^ 32 → Line (textOf (Committed n))
+InLine (Shown s) = s .commits < 2 ^ 32 → s .versions < 2 ^ 32 → s .busy < 2 ^ 32 → Line (textOf (Shown s))
+InLine (Refused y) = Line (textOf (Refused y))
+
+-- an answer is nothing or one line, where its numbers are of 32 bits
+abbrev pub OneLine : Type 0
+OneLine = (a : Answer) → InLine a
