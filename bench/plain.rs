@@ -151,7 +151,9 @@ impl Engine {
     fn commit(&mut self, slot: u32, out: &mut String) -> Result<(), u8> {
         let transaction = busy(&mut self.slots, slot)?;
         let (level, begin) = (transaction.level, transaction.begin);
-        if level != Level::Latest && transaction.writes.iter().any(|&(key, _)| newer(&self.versions[key as usize], begin)) {
+        if level != Level::Latest
+            && transaction.writes.iter().any(|&(key, _)| newer(&self.versions[key as usize], begin))
+        {
             return Err(4);
         }
         let mut passes = false;
