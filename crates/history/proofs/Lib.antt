@@ -6,3 +6,4 @@ pub mod Lives
 pub mod Sounding
 pub mod Serials
 pub mod Promising
+pub mod Shown

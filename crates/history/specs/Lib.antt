@@ -1,3 +1,4 @@
 pub mod Engine
 pub mod Sound
 pub mod Promise
+pub mod Examples

@@ -1,6 +1,7 @@
 // The engine as the rules have it, over every list of calls, syncs and stops.
 ghost use Rattle.history.specs.Sound.{AllSound};
 ghost use Rattle.history.specs.Promise.{Promises};
+ghost use Rattle.history.specs.Examples.{Examples};
 
 // Events lead only to sound engines.
 pub fn always_sound() -> u8
@@ -9,9 +10,10 @@ pub fn always_sound() -> u8
     0
 }
 
-// What is promised holds whatever has happened.
+// What is promised holds whatever has happened. The example has two commits whose line is not by their numbers.
 pub fn promises_stand() -> u8
-    ensures { λ _. ⌜ Promises ⌝ }
+    ensures promises { λ _. ⌜ Promises ⌝ }
+    ensures examples { λ _. ⌜ Examples ⌝ }
 {
     0
 }
