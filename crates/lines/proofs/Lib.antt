@@ -5,3 +5,4 @@ pub mod Splits
 pub mod Digits
 pub mod Trips
 pub mod Lined
+pub mod Wholes

@@ -58,6 +58,6 @@ one-line (Shown s) = λ c v b. (
   decimal (s .commits) ++ (32 ∷ (decimal (s .versions) ++ (32 ∷ decimal (s .busy)))),
   sym (simp append-assoc),
   any-join feed (decimal (s .commits)) (32 ∷ (decimal (s .versions) ++ (32 ∷ decimal (s .busy)))) (number-plain (s .commits) c)
-  (any-join feed (decimal (s .versions)) (32 ∷ decimal (s .busy)) (number-plain (s .versions) v) (number-plain (s .busy) b)),
+      (any-join feed (decimal (s .versions)) (32 ∷ decimal (s .busy)) (number-plain (s .versions) v) (number-plain (s .busy) b)),
 )
 one-line (Refused y) = (110 ∷ 111 ∷ 32 ∷ decimal (numberOf y), refl, number-plain (numberOf y) (number-small y))

@@ -53,7 +53,7 @@ judged-known c true false e = let z : _≡_ {A = ℕ} 0 1 = cc in omega arith
 judged-known c false q e = let z : _≡_ {A = ℕ} 0 1 = cc in omega arith
 
 -- the request that stands where the word stands among names
-abbrev pick : List ℕ → List (List ℕ) → List Request → Request
+abbrev pub pick : List ℕ → List (List ℕ) → List Request → Request
 pick w [] rs = Unknown
 pick w (n ∷ ns) [] = Unknown
 pick w (n ∷ ns) (r ∷ rs) = cond (sameBytes w n) r (pick w ns rs)
@@ -77,7 +77,7 @@ pick-known w (n ∷ ns) (r ∷ rs) l k h = by (sameBytes w n) h (pick-known w ns
     by false e f = f e
 
 -- what a line asks for whose words these are, if its first word is each of the names
-abbrev each : List ℕ → List ℕ → List ℕ → List ℕ → List Request
+abbrev pub each : List ℕ → List ℕ → List ℕ → List ℕ → List Request
 each a b c d =
     beginOf a b c ∷ readOf a b c d ∷ writeOf a b c d ∷ slotOnly Commit a b ∷ slotOnly Abort a b ∷ plain Sweep a ∷ plain Sync a ∷ plain Stop a ∷ plain Show a ∷ []
 

@@ -5,7 +5,7 @@ use mathlib.Core.List.{List, [], _∷_, _++_}
 use Prim.Native.Nat.{ℕ, _+_, _-_, _*_, _^_, _<_, min}
 use lib.Chars.{codes}
 use lib.Dec.{eqb}
-use lib.ListN.{length}
+use lib.ListN.{length, getD}
 use Rattle.std.specs.declared.option.Option.{Option}
 use Rattle.std.specs.declared.option.Option.the-variants.{Some, None}
 use Rattle.std.specs.shelf.Lists.{All}
@@ -134,6 +134,31 @@ abbrev pub RoundTrip : Type 0
 RoundTrip =
     ((c : Call) (s : List ℕ) → Sayable c → lineWords s ≡ spelt c → parsed s ≡ Whole c)
     × ((c : Call) → Sayable c → parsed (spaced (spelt c)) ≡ Whole c)
+
+-- a word of digits says a number, and the highest of 32 bits where it is above that
+abbrev pub Says : ℕ → List ℕ → Type 0
+Says n w = (0 < length w) × (allDigits w ≡ true) × (n ≡ min (valueOf w) 4294967295)
+
+abbrev pub SaysLevel : Option Level → List ℕ → Type 0
+SaysLevel (Some l) w = w ≡ levelName l
+SaysLevel None w = (w ≡ codes "latest" → ⊥) × (w ≡ codes "snapshot" → ⊥) × (w ≡ codes "serial" → ⊥)
+
+-- the words ask for the call: so many, and each in its place
+abbrev pub Asks : Call → List (List ℕ) → Type 0
+Asks (Begin s l) ws = (length ws ≡ 3) × (getD ws 0 [] ≡ codes "begin") × Says s (getD ws 1 []) × SaysLevel l (getD ws 2 [])
+Asks (Read s a b) ws = (length ws ≡ 4) × (getD ws 0 [] ≡ codes "read") × Says s (getD ws 1 []) × Says a (getD ws 2 []) × Says b (getD ws 3 [])
+Asks (Write s k v) ws =
+    (length ws ≡ 4) × (getD ws 0 [] ≡ codes "write") × Says s (getD ws 1 []) × Says k (getD ws 2 []) × Says v (getD ws 3 []) × (valueOf (getD ws 3 []) < 2 ^ 32)
+Asks (Commit s) ws = (length ws ≡ 2) × (getD ws 0 [] ≡ codes "commit") × Says s (getD ws 1 [])
+Asks (Abort s) ws = (length ws ≡ 2) × (getD ws 0 [] ≡ codes "abort") × Says s (getD ws 1 [])
+Asks Sweep ws = (length ws ≡ 1) × (getD ws 0 [] ≡ codes "sweep")
+Asks Sync ws = (length ws ≡ 1) × (getD ws 0 [] ≡ codes "sync")
+Asks Stop ws = (length ws ≡ 1) × (getD ws 0 [] ≡ codes "stop")
+Asks Show ws = (length ws ≡ 1) × (getD ws 0 [] ≡ codes "show")
+
+-- nothing is wrong with a line only where its words ask for the call
+abbrev pub OnlyWhole : Type 0
+OnlyWhole = (s : List ℕ) (c : Call) → parsed s ≡ Whole c → Asks c (lineWords s)
 
 -- a line feed stands at the end, and nowhere else
 abbrev pub Line : List ℕ → Type 0

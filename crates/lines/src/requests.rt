@@ -1,7 +1,7 @@
 // What a line asks for.
 ghost use mathlib.Core.Path.{_≡_};
 ghost use Rattle.lines.specs.Requests.{levelOf, judged, plain, slotOnly, beginOf, readOf, writeOf, asked, parsed};
-ghost use Rattle.lines.specs.Laws.{Split, Return, SameWords, Number, NoCall, RoundTrip};
+ghost use Rattle.lines.specs.Laws.{Split, Return, SameWords, Number, NoCall, RoundTrip, OnlyWhole};
 use crate::number::*;
 use crate::words::*;
 use model::Call;
@@ -160,6 +160,7 @@ pub fn parse(line: &[u8]) -> Request
     ensures number { λ _. ⌜ Number ⌝ }
     ensures unknown { λ _. ⌜ NoCall ⌝ }
     ensures trip { λ _. ⌜ RoundTrip ⌝ }
+    ensures whole { λ _. ⌜ OnlyWhole ⌝ }
 {
     request(words_of(without_return(line)))
 }

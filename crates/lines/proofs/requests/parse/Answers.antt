@@ -2,6 +2,7 @@ use borrow.Author.Needs.{needs}
 use Rattle.lines.proofs.Splits.{splits, returned, same-words}
 use Rattle.lines.proofs.Digits.{numbers}
 use Rattle.lines.proofs.Trips.{no-call, round-trip}
+use Rattle.lines.proofs.Wholes.{only-whole}
 use Rattle.lines.proofs.requests.parse.Needs as need
 
 pub returns : need.returns
@@ -13,4 +14,5 @@ returns c = record {
   number = numbers;
   unknown = no-call;
   trip = round-trip;
+  whole = only-whole;
 }
