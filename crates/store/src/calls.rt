@@ -150,7 +150,8 @@ impl<'s, 'a> Tables<'s, 'a> {
 }
 
 impl Tables<'_, '_> {
-    fn slot(&self, slot: u32) -> Slot
+    // What runs in the slot; a slot that there isn't is idle.
+    pub fn slot(&self, slot: u32) -> Slot
         ensures { λ r. ⌜ runOf r ≡ getD (map runOf (now (self .entry) .slots)) slot idle ⌝ }
     {
         if slot >= SLOTS {
