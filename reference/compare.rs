@@ -21,7 +21,7 @@ const USAGE: &str = "\
 options: --scripts N   how many random scripts (300)
          --seed N      the seed of the first one (1)
          --engine PATH the engine (target/bin/engine; target/bin/lineup with --lineup)
-         --memory      the engine keeps nothing in its file
+         --memory      the engine keeps its commits in memory only
          --lineup      the program that prints the serial order
          --pass WORD   the engine is started with this word, and not with the name of a file
          --jobs N      how many scripts at once (as many as there are cores)

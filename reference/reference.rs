@@ -156,13 +156,19 @@ impl Reference {
 
     /// Drops everything, and takes up what is in the file.
     fn open(&mut self) -> io::Result<()> {
+        let held: Vec<_> = self.commits.iter().map(|commit| commit.writes.clone()).collect();
         self.slots = (0..SLOTS).map(|_| None).collect();
         self.commits = Vec::new();
         self.passes = Vec::new();
         self.versions = (0..KEYS).map(|_| Vec::new()).collect();
         self.broken = false;
         self.file = None;
-        let Home::File(path) = &self.home else { return Ok(()) };
+        let Home::File(path) = &self.home else {
+            for writes in held {
+                self.take_record(writes);
+            }
+            return Ok(());
+        };
         let mut file = OpenOptions::new().read(true).append(true).create(true).open(path)?;
         let mut bytes = Vec::new();
         file.read_to_end(&mut bytes)?;

@@ -2,19 +2,17 @@
 use conversation::Service;
 use model::Answer;
 use model::Request;
-use std::alloc::Global;
 use std::error::AnyError;
 use store::Store;
 
 #[derive(Drop)]
-pub struct Hall<'h, 's, 'a> {
-    pub heap: Global,
-    pub store: &'h mut Store<'s, 'a>,
+pub struct Hall<'h, 't, 's, 'a> {
+    pub store: &'h mut Store<'t, 's, 'a>,
 }
 
-pub impl Service for Hall<'_, '_, '_> as HallService {
+pub impl Service for Hall<'_, '_, '_, '_> as HallService {
     fn answer(&mut self, request: Request) -> Answer {
-        self.store.answer(self.heap, request)
+        self.store.answer(request)
     }
 
     // Nothing is kept outside the memory yet.

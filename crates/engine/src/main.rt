@@ -8,6 +8,7 @@ use std::env;
 use std::error::AnyError;
 use store::Room;
 use store::Store;
+use store::Tables;
 use versions::Versions;
 use versions::Words;
 
@@ -34,12 +35,16 @@ fn run(rt: &LibcRuntime) -> Result<(), AnyError> {
         value: room.second.value.as_mut_slice(),
     };
     let mut versions = Versions::new(words, spare, room.stack.as_mut_slice());
-    let mut store = Store::new(heap, &mut versions);
-    serve(rt, &mut store)
+    let mut tables = Tables::new(heap, &mut versions);
+    serve(rt, &mut tables)
 }
 
-fn serve(rt: &LibcRuntime, store: &mut Store) -> Result<(), AnyError> {
-    let heap = rt.alloc();
-    let mut hall = Hall { heap, store };
-    converse(heap, &mut hall, &mut rt.stdin(), &mut rt.stdout())
+fn serve(rt: &LibcRuntime, tables: &mut Tables) -> Result<(), AnyError> {
+    let mut store = Store::over(tables);
+    talk(rt, &mut store)
+}
+
+fn talk(rt: &LibcRuntime, store: &mut Store) -> Result<(), AnyError> {
+    let mut hall = Hall { store };
+    converse(rt.alloc(), &mut hall, &mut rt.stdin(), &mut rt.stdout())
 }

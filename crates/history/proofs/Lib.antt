@@ -4,4 +4,5 @@ pub mod Floors
 pub mod Files
 pub mod Lives
 pub mod Sounding
+pub mod Serials
 pub mod Promising

@@ -5,6 +5,7 @@ use mathlib.Core.List.{List, [], _∷_, map, List·Memᴰ, List·Memᴰ·head, L
 use Prim.Native.Nat.{ℕ, zero, suc, _<_}
 use native.Mathlib.Omega.{arith}
 use lib.ListN.{length, getD, set, replicate}
+use Rattle.std.specs.shelf.Lists.{All}
 use Rattle.std.specs.declared.option.Option.{Option}
 use Rattle.std.specs.declared.option.Option.the-variants.{Some, None}
 
@@ -14,6 +15,10 @@ map-same f g (x ∷ xs) h =
     let a = h x (List·Memᴰ·head refl) in
     let b = map-same f g xs (λ y m. h y (List·Memᴰ·tail m)) in
     cc
+
+pub all-members : {X : Type 0} (P : X → Type 0) (xs : List X) → ((x : X) → List·Memᴰ x xs → P x) → All P xs
+all-members P [] h = tt
+all-members P (x ∷ xs) h = (h x (List·Memᴰ·head refl), all-members P xs (λ y m. h y (List·Memᴰ·tail m)))
 
 pub place-of : {X : Type 0} {x : X} {xs : List X} (d : X) → List·Memᴰ x xs → (i : ℕ) × (i < length xs) × (getD xs i d ≡ x)
 place-of d (List·Memᴰ·head e) = (0, omega arith, sym e)

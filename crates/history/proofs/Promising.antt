@@ -18,11 +18,12 @@ use Rattle.conflicts.specs.Laws.{nth}
 use Rattle.conflicts.proofs.Allowing.{first-wins}
 use Rattle.history.specs.Engine.{Life, Engine, fresh, txnOf, txns, count, slotAt, refusalOf, reading, restarted, onBegin, onRead, onWrite, onCommit, performed, found, readReply, replied, orRefused, bytesIn, wholeIn, Event, Called, Stopped, step, run, led}
 use Rattle.history.specs.Sound.{Lived, nobody, Sound}
-use Rattle.history.specs.Promise.{There, LatestNow, OneMoment, FirstWins, SyncedStays, StopKeeps, Promises}
+use Rattle.history.specs.Promise.{There, LatestNow, OneMoment, FirstWins, GivenStays, SyncedStays, StopKeeps, Promises}
 use Rattle.history.proofs.Lists.{map-same, place-of, none-or-some}
 use Rattle.history.proofs.Refusing.{refused-or-not}
 use Rattle.history.proofs.Files.{whole-counts}
 use Rattle.history.proofs.Sounding.{sweep-below, step-sound, run-append, led-more, always-sound}
+use Rattle.history.proofs.Serials.{serial-line}
 
 pub latest-now : (e : Engine) → LatestNow e
 latest-now e s a b l h k r =
@@ -54,6 +55,9 @@ first-committer e v i j l m b s =
     ap (λ (t : Txn). bothWrite (t .writes) (getD (e .done) i nobody .txn .writes)) (sym q)
     ∙ ap (λ (t : Txn). bothWrite (nth (txns e) j .writes) (t .writes)) (sym p)
     ∙ w
+
+pub given-stays : (e : Engine) → Sound e → GivenStays e
+given-stays e v l t = lived-there e v l t .1 .given
 
 -- what was synced in e is synced in f
 abbrev Stays : Engine → Engine → Type 0
@@ -119,6 +123,8 @@ promises h =
       latest = latest-now e;
       moment = one-moment e v;
       first = first-committer e v;
+      given = given-stays e v;
+      serial = serial-line e v;
       sweeps = sweep-below e;
       synced = synced-stays h;
       stops = stop-keeps h;

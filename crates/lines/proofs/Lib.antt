@@ -1,3 +1,7 @@
 pub mod Scan
 pub mod Gather
 pub mod Pairs
+pub mod Splits
+pub mod Digits
+pub mod Trips
+pub mod Lined

@@ -33,7 +33,7 @@ digits-end : (n : ℕ) (s : List ℕ) (i : ℕ) → length s ≤ i → digits n 
 unfolding digits
 digits-end n s i h = at-drop-all (digits n) s i h
 
-numeral-is : (s : List ℕ) → (length s ≡ 0 → ⊥) → numeral s ≡ digits 0 s
+pub numeral-is : (s : List ℕ) → (length s ≡ 0 → ⊥) → numeral s ≡ digits 0 s
 unfolding numeral
 numeral-is s h = rw (apart-eqb (length s) 0 h) refl
 

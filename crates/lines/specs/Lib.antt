@@ -3,3 +3,4 @@ pub mod Numbers
 pub mod Requests
 pub mod Held
 pub mod Said
+pub mod Laws

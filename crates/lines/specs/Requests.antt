@@ -57,18 +57,18 @@ writeOf a b c d =
     judged (Write (part a) (part b) (part c)) (isSome (numeral a))
     (isSome (numeral b) && (fitting (numeral c) && missing d))
 
--- by the first word of the line
-abbrev pub named : List ℕ → List ℕ → Request
-named w s =
-    cond (sameBytes w (codes "begin")) (beginOf (field 1 s) (field 2 s) (field 3 s))
-    (cond (sameBytes w (codes "read")) (readOf (field 1 s) (field 2 s) (field 3 s) (field 4 s))
-    (cond (sameBytes w (codes "write")) (writeOf (field 1 s) (field 2 s) (field 3 s) (field 4 s))
-    (cond (sameBytes w (codes "commit")) (slotOnly Commit (field 1 s) (field 2 s))
-    (cond (sameBytes w (codes "abort")) (slotOnly Abort (field 1 s) (field 2 s))
-    (cond (sameBytes w (codes "sweep")) (plain Sweep (field 1 s))
-    (cond (sameBytes w (codes "sync")) (plain Sync (field 1 s))
-    (cond (sameBytes w (codes "stop")) (plain Stop (field 1 s))
-    (cond (sameBytes w (codes "show")) (plain Show (field 1 s)) Unknown))))))))
+-- by the first word of the line, and the four behind it
+abbrev pub asked : List ℕ → List ℕ → List ℕ → List ℕ → List ℕ → Request
+asked w a b c d =
+    cond (sameBytes w (codes "begin")) (beginOf a b c)
+    (cond (sameBytes w (codes "read")) (readOf a b c d)
+    (cond (sameBytes w (codes "write")) (writeOf a b c d)
+    (cond (sameBytes w (codes "commit")) (slotOnly Commit a b)
+    (cond (sameBytes w (codes "abort")) (slotOnly Abort a b)
+    (cond (sameBytes w (codes "sweep")) (plain Sweep a)
+    (cond (sameBytes w (codes "sync")) (plain Sync a)
+    (cond (sameBytes w (codes "stop")) (plain Stop a)
+    (cond (sameBytes w (codes "show")) (plain Show a) Unknown))))))))
 
 abbrev pub parsed : List ℕ → Request
-parsed line = named (field 0 (unended line)) (unended line)
+parsed line = asked (field 0 (unended line)) (field 1 (unended line)) (field 2 (unended line)) (field 3 (unended line)) (field 4 (unended line))

@@ -1,6 +1,7 @@
 // What a line asks for.
 ghost use mathlib.Core.Path.{_≡_};
-ghost use Rattle.lines.specs.Requests.{levelOf, judged, plain, slotOnly, beginOf, readOf, writeOf, parsed};
+ghost use Rattle.lines.specs.Requests.{levelOf, judged, plain, slotOnly, beginOf, readOf, writeOf, asked, parsed};
+ghost use Rattle.lines.specs.Laws.{Split, Return, SameWords, Number, NoCall, RoundTrip};
 use crate::number::*;
 use crate::words::*;
 use model::Call;
@@ -116,11 +117,10 @@ fn write(first: &[u8], second: &[u8], third: &[u8], fourth: &[u8]) -> Request
     )
 }
 
-// What a line asks for, given without its line feed.
-pub fn parse(line: &[u8]) -> Request
-    ensures { λ r. ⌜ r ≡ parsed (now (line .entry)) ⌝ }
+// By the first word of the line.
+fn request(w: Words<'_>) -> Request
+    ensures { λ r. ⌜ r ≡ asked (now (w .entry .name)) (now (w .entry .first)) (now (w .entry .second)) (now (w .entry .third)) (now (w .entry .fourth)) ⌝ }
 {
-    let w = words_of(without_return(line));
     if is(w.name, "begin") {
         return begin(w.first, w.second, w.third);
     }
@@ -149,4 +149,17 @@ pub fn parse(line: &[u8]) -> Request
         return bare(Call::Show, w.first);
     }
     Request::Unknown
+}
+
+// What a line asks for, given without its line feed.
+pub fn parse(line: &[u8]) -> Request
+    ensures value { λ r. ⌜ r ≡ parsed (now (line .entry)) ⌝ }
+    ensures split { λ _. ⌜ Split ⌝ }
+    ensures unreturned { λ _. ⌜ Return ⌝ }
+    ensures words { λ _. ⌜ SameWords ⌝ }
+    ensures number { λ _. ⌜ Number ⌝ }
+    ensures unknown { λ _. ⌜ NoCall ⌝ }
+    ensures trip { λ _. ⌜ RoundTrip ⌝ }
+{
+    request(words_of(without_return(line)))
 }

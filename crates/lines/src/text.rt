@@ -4,6 +4,7 @@ ghost use mathlib.Core.Bool.{false};
 ghost use mathlib.Core.List.{_∷_, [], _++_};
 ghost use Rattle.std.specs.Of.String.{string-bytes};
 ghost use Rattle.std.specs.Vec.{made};
+ghost use Rattle.lines.specs.Laws.{OneLine};
 ghost use Rattle.lines.specs.Said.{textOf, pair, pairs};
 use model::Answer;
 use model::Entry;
@@ -12,7 +13,8 @@ use std::fmt::Write;
 
 // Writes the answer's text behind what stands in `out`.
 pub fn say(out: &mut String, answer: &Answer) -> fmt::Result
-    ensures { λ r. ⌜ made r (λ _. string-bytes (now (out .exit)) ≡ string-bytes (now (out .entry)) ++ textOf (now (answer .entry))) ⌝ }
+    ensures text { λ r. ⌜ made r (λ _. string-bytes (now (out .exit)) ≡ string-bytes (now (out .entry)) ++ textOf (now (answer .entry))) ⌝ }
+    ensures line { λ _. ⌜ OneLine ⌝ }
 {
     match answer {
         Answer::Done => Ok(()),

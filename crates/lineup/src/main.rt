@@ -9,6 +9,7 @@ use serial_runs::say_order;
 use std::error::AnyError;
 use std::io::Write;
 use store::Room;
+use store::Store;
 use store::Tables;
 use versions::Versions;
 use versions::Words;
@@ -38,12 +39,12 @@ fn run(rt: &LibcRuntime) -> Result<(), AnyError> {
 }
 
 fn serve(rt: &LibcRuntime, tables: &mut Tables) -> Result<(), AnyError> {
-    let heap = rt.alloc();
-    let mut runs = Runs {
-        heap,
-        tables,
-        pasts: Vec::new(heap),
-    };
+    let mut store = Store::over(tables);
+    keep(rt, &mut store)
+}
+
+fn keep(rt: &LibcRuntime, store: &mut Store) -> Result<(), AnyError> {
+    let mut runs = Runs::new(rt.alloc(), store);
     talk(rt, &mut runs)?;
     tell(rt, &runs)
 }

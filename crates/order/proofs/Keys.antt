@@ -1,13 +1,12 @@
 -- What commits leave at a key is what the last that wrote it left.
-use mathlib.Core.Path.{_≡_, refl, sym, ap, subst, _∙_}
+use mathlib.Core.Path.{_≡_, refl, sym, ap, _∙_}
 use mathlib.Core.Logic.{_⊎_, inl, inr}
-use mathlib.Core.Bool.{Bool, true, false, cond, _&&_, not}
+use mathlib.Core.Bool.{true, false, cond}
 use mathlib.Core.List.{List, [], _∷_, _++_, map}
 use Prim.Native.Nat.{ℕ, zero, suc, _+_, _-_, _<_, _≤_}
 use native.Mathlib.Omega.{arith}
-use lib.Dec.{eqb, ltb, leb}
-use lib.ListN.{length}
-use Rattle.std.proofs.shelf.Tests.{cases-bool, or-parts, or-cases, eqb-true, eqb-false, eq-eqb, ne-eqb, le-leb, lt-ltb, and-from, not-from-false, cond-true, cond-false}
+use lib.Dec.{eqb}
+use Rattle.std.proofs.shelf.Tests.{cases-bool, or-parts, eqb-true, eqb-false, eq-eqb, ne-eqb, le-leb, lt-ltb, and-from, not-from-false, cond-true, cond-false}
 use Rattle.model.specs.declared.Entry.{Entry}
 use Rattle.model.specs.Lists.{any}
 use Rattle.model.specs.Transactions.{State, Read, Txn, put, puts, after, empty, foundFrom, names, looksAt, looked, readsSome, bothWrite}

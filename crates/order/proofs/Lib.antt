@@ -3,4 +3,5 @@ pub mod Stands
 pub mod Lines
 pub mod Keys
 pub mod Serial
+pub mod Shown
 pub mod Taking

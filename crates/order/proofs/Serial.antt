@@ -1,21 +1,21 @@
 -- Run in the line's order, each has the same answers, and the same is left.
 use mathlib.Core.Path.{_≡_, refl, sym, ap, subst, _∙_}
 use mathlib.Core.Logic.{_⊎_, inl, inr, ⊎-elim}
-use mathlib.Core.Bool.{Bool, true, false}
+use mathlib.Core.Bool.{true, false}
 use mathlib.Core.List.{List, [], _∷_, _++_, map}
 use Prim.Native.Nat.{ℕ, zero, suc, _+_, _-_, _<_, _≤_}
 use native.Mathlib.Omega.{arith}
 use native.Mathlib.Numerals.{add-one}
-use lib.ListN.{length, take, getD}
+use lib.ListN.{length, take}
 use Rattle.std.specs.Iters.{counting}
 use Rattle.std.proofs.shelf.Counted.{length-counting, map-counting-more}
 use Rattle.std.proofs.shelf.Lists.{append-assoc, map-append, take-more, take-all}
 use Rattle.std.proofs.shelf.Sorted.{shuffled-sym}
 use Rattle.std.proofs.shelf.Tests.{cases-bool, cases-lt}
 use Rattle.model.specs.declared.Level.the-variants.{Latest}
-use Rattle.model.specs.Transactions.{State, Read, Txn, puts, after, empty, foundFrom, answerIn, answered, names, readsSome, began}
+use Rattle.model.specs.Transactions.{State, Read, Txn, puts, after, empty, answerIn, answered, names, readsSome, began}
 use Rattle.conflicts.specs.Laws.{nth, Allowed}
-use Rattle.order.specs.Order.{standsBefore, commitAt, line, OneMoment, AllSerial, OneByOne, SerialOrder, Serializable}
+use Rattle.order.specs.Order.{commitAt, line, OneMoment, AllSerial, OneByOne, SerialOrder, Serializable}
 use Rattle.order.proofs.Members.{In, clash, in-right, in-cases, all-in, map-same, Asc, in-counting, counting-in, asc-counting}
 use Rattle.order.proofs.Stands.{stands-wrote, stands-seen, stands-missed, not-latest-at}
 use Rattle.order.proofs.Lines.{shuffled-in, InLine, inline-front, inline-rest, inline-across, Lined, lined-whole}

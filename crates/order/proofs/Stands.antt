@@ -1,7 +1,7 @@
 -- Who has to stand before whom, by reasons, and that the first of those left, or one that it waits for, is free.
 use mathlib.Core.Path.{_≡_, refl, ap, _∙_}
 use mathlib.Core.Logic.{_⊎_, inl, inr}
-use mathlib.Core.Bool.{Bool, true, false, _&&_, _||_, not}
+use mathlib.Core.Bool.{Bool, true, false, _||_, not}
 use mathlib.Core.List.{List, [], _∷_}
 use Prim.Native.Nat.{ℕ, zero, suc, _+_, _<_, _≤_}
 use native.Mathlib.Omega.{arith}
@@ -11,7 +11,7 @@ use Rattle.std.proofs.shelf.Tests.{cases-bool, and-parts, and-from, or-cases, o
 use Rattle.model.specs.declared.Level.the-variants.{Latest}
 use Rattle.model.specs.Lists.{any}
 use Rattle.model.specs.Transactions.{Txn, readsSome, bothWrite, isSerial, isLatest, began}
-use Rattle.model.specs.Commits.{Commit, numbered, commits, unseen, passes, isPivot, hasPivot}
+use Rattle.model.specs.Commits.{Commit, numbered, commits, passes, isPivot, hasPivot}
 use Rattle.conflicts.specs.Laws.{nth, Allowed}
 use Rattle.conflicts.proofs.Allowing.{first-wins, no-pivot}
 use Rattle.conflicts.proofs.Passing.{of-earlier}

@@ -10,15 +10,13 @@ use native.Mathlib.Nat.{add-assoc, add-zero, zero-add}
 use lib.Dec.{eqb, leb}
 use lib.ListN.{length, getD, set, replicate}
 use Rattle.std.specs.Iters.{counting}
-use Rattle.std.specs.declared.option.Option.{Option}
 use Rattle.std.specs.declared.option.Option.the-variants.{Some, None}
 use Rattle.std.proofs.shelf.Lists.{append-nil, append-assoc, length-map, length-set, length-replicate, getD-replicate, getD-default, getD-set-same, getD-set-other}
-use Rattle.std.proofs.shelf.Tests.{and-parts, and-right, not-true, not-from-true, not-from-false, cases-eq, cases-lt, cases-bool, eq-eqb, ne-eqb, le-leb, lt-leb}
-use Rattle.model.specs.declared.Level.the-variants.{Latest, Serial}
+use Rattle.std.proofs.shelf.Tests.{and-parts, and-right, not-from-true, not-from-false, cases-eq, cases-lt, cases-bool, eq-eqb, ne-eqb, le-leb, lt-leb}
+use Rattle.model.specs.declared.Level.the-variants.{Latest}
 use Rattle.model.specs.Lists.{kept}
 use Rattle.model.specs.Transactions.{Txn, began}
 use Rattle.transactions.proofs.Places.{found-at}
-use Rattle.conflicts.specs.Laws.{nth}
 use Rattle.order.specs.declared.past.Past.{Past}
 use Rattle.order.specs.Order.{standsBefore, commitAt, blocked, firstFree, without, thenThose, lined, line, AllSerial}
 use Rattle.order.specs.Past.{pastOf, commitOf}
@@ -85,9 +83,9 @@ module _ (done : List Txn) (gone : List Bool) where
   asc : Asc (leftOf gone)
   asc = asc-kept (isOpen gone) (counting 0 (length gone)) (asc-counting 0 (length gone))
 
-  pub free-at : (i : ℕ) → i < length gone → isFree done gone i ≡ true → Passed done gone i → Some i ≡ firstFree done (leftOf gone)
+  pub free-at : (i : ℕ) → i < length gone → true ≡ isFree done gone i → Passed done gone i → Some i ≡ firstFree done (leftOf gone)
   free-at i l f h =
-      let p = and-parts (isOpen gone i) (not (blocked done (leftOf gone) i)) f in
+      let p = and-parts (isOpen gone i) (not (blocked done (leftOf gone) i)) (sym f) in
       sym (low-is (λ i. not (blocked done (leftOf gone) i)) i (leftOf gone) asc (in-left-of gone i l (p .0)) (p .1) (λ j m k. waiting i j h k m))
 
   pub free-none : (i : ℕ) → length gone ≤ i → Passed done gone i → None ≡ firstFree done (leftOf gone)

@@ -1,5 +1,4 @@
 ghost use mathlib.Core.Path.{_≡_};
-ghost use mathlib.Core.List.{map};
 ghost use Rattle.model.specs.Transactions.{bothWrite};
 ghost use Rattle.transactions.specs.Transactions.{modelOf};
 ghost use Rattle.order.specs.Order.{standsBefore};

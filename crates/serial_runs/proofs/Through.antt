@@ -7,7 +7,8 @@ use Rattle.std.proofs.shelf.Tests.{cond-false}
 use Rattle.model.specs.declared.Call.{Call}
 use Rattle.model.specs.declared.Request.{Request}
 use Rattle.model.specs.declared.Request.the-variants.{Whole, Faulty, Slotless, Unknown}
-use Rattle.serial_runs.specs.Requests.{isStop, beginsOther, asSerial, Fitting, Through}
+use Rattle.store.specs.Answers.{isStop}
+use Rattle.serial_runs.specs.Requests.{beginsOther, asSerial, Fitting, Through}
 
 -- one that is whole comes of the last of the three
 whole-last : (d c : Call) (s b : Bool) → cond s Unknown (cond b (Faulty d) (Whole d)) ≡ Whole c → (Whole d ≡ Whole c) × (s ≡ false) × (b ≡ false)

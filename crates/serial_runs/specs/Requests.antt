@@ -9,17 +9,7 @@ use Rattle.model.specs.declared.Level.{Level}
 use Rattle.model.specs.declared.Request.{Request}
 use Rattle.model.specs.declared.Request.the-variants.{Whole, Faulty, Slotless, Unknown}
 use Rattle.model.specs.Transactions.{isSerial}
-
-abbrev pub isStop : Call → Bool
-isStop (Begin s l) = false
-isStop (Read s a b) = false
-isStop (Write s k v) = false
-isStop (Commit s) = false
-isStop (Abort s) = false
-isStop Sweep = false
-isStop Sync = false
-isStop Stop = true
-isStop Show = false
+use Rattle.store.specs.Answers.{isStop}
 
 -- a level, and not Serial
 abbrev pub otherLevel : Option Level → Bool

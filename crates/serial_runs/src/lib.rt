@@ -1,5 +1,4 @@
 // Runs of Serials alone, with what is needed for their serial order.
-mod answers;
 mod requests;
 mod runs;
 mod text;

@@ -1,7 +1,8 @@
 // What is asked where there are only Serials and no file.
 ghost use mathlib.Core.Path.{_≡_};
 ghost use Rattle.model.specs.Transactions.{isSerial};
-ghost use Rattle.serial_runs.specs.Requests.{isStop, beginsOther, asSerial, OnlySerials};
+ghost use Rattle.store.specs.Answers.{isStop};
+ghost use Rattle.serial_runs.specs.Requests.{beginsOther, asSerial, OnlySerials};
 use model::Call;
 use model::Level;
 use model::Request;

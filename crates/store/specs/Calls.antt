@@ -120,3 +120,7 @@ Enters t s u (Err y) = (e : Engine) (i : ℕ) (l : Life) → Sound e → Is e s 
 -- whatever events led to the tables, they are where they and the call lead, and the answer is the one that the rules give
 abbrev pub Does : Call → Tables → Tables → Answer → Type 0
 Does c s t a = (h : List Event) → Is (led h) s → Answers c (led h) (led (h ++ (Called c ∷ []))) (replyTo c (led h)) t a
+
+-- some events, from an empty engine on, led to the tables
+abbrev pub Led : Tables → Type 0
+Led s = (h : List Event) × Is (led h) s

@@ -1,2 +1,4 @@
 pub mod Fits
 pub mod Calls
+pub mod Answers
+pub mod Rooms

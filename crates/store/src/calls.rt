@@ -1,6 +1,6 @@
 // What each call does.
 ghost use mathlib.Core.Path.{_≡_};
-ghost use mathlib.Core.Bool.{not};
+ghost use mathlib.Core.Bool.{true, not};
 ghost use mathlib.Core.List.{map};
 ghost use Prim.Native.Nat.{_<_};
 ghost use lib.Dec.{leb};
@@ -11,9 +11,10 @@ ghost use Rattle.transactions.specs.Slots.{idle, runOf, beginRefused, readRefus
 ghost use Rattle.transactions.specs.Transactions.{modelOf};
 ghost use Rattle.model.specs.declared.Call.the-variants.{Begin, Read, Write, Commit, Abort, Sweep, Stop};
 ghost use Rattle.model.specs.declared.Refusal.the-variants.{NoRoom, LastCommit};
-ghost use Rattle.history.specs.Engine.{outOfBounds, when, firstOf};
+ghost use Rattle.versions.specs.Store.{spaces};
+ghost use Rattle.history.specs.Engine.{fresh, outOfBounds, when, firstOf};
 ghost use Rattle.store.specs.Fits.{counts, lowerRun, floorOf, busyRun, busyOf};
-ghost use Rattle.store.specs.Calls.{Refuses, SlotRefuses, Judges, Puts, Keeps, Performs, PerformsOr, Counted, Finds, StandsAt, ReadsBy, CommitsBy, Enters};
+ghost use Rattle.store.specs.Calls.{Is, Refuses, SlotRefuses, Judges, Puts, Keeps, Performs, PerformsOr, Counted, Finds, StandsAt, ReadsBy, CommitsBy, Enters};
 use crate::state::Tables;
 use conflicts::Window;
 use model::Answer;
@@ -26,6 +27,7 @@ use std::alloc::AllocError;
 use std::alloc::Global;
 use transactions::Slot;
 use transactions::Transaction;
+use versions::ROOM;
 use versions::Versions;
 
 const SLOTS: u32 = 16;
@@ -137,7 +139,10 @@ fn busier(slot: &Slot, n: u32) -> u32
 }
 
 impl<'s, 'a> Tables<'s, 'a> {
-    pub fn new(heap: Global, versions: &'s mut Versions<'a>) -> Tables<'s, 'a> {
+    // Tables with no commits and nothing under way.
+    pub fn new(heap: Global, versions: &'s mut Versions<'a>) -> Tables<'s, 'a>
+        ensures { λ r. ⌜ (spaces (now (versions .entry)) ≡ 32768 → Is fresh r) ⌝ }
+    {
         versions.clear();
         Tables {
             heap,
@@ -150,6 +155,17 @@ impl<'s, 'a> Tables<'s, 'a> {
 }
 
 impl Tables<'_, '_> {
+    // Empties the tables. Says whether there is room for all versions that an engine may have.
+    pub fn reset(&mut self) -> bool
+        ensures { λ r. ⌜ (r ≡ true → Is fresh (now (self .exit))) ⌝ }
+    {
+        self.versions.clear();
+        self.window = Window::new(self.heap);
+        self.slots = [Slot::Idle; 16];
+        self.commits = 0;
+        self.versions.room() == ROOM
+    }
+
     // What runs in the slot; a slot that there isn't is idle.
     pub fn slot(&self, slot: u32) -> Slot
         ensures { λ r. ⌜ runOf r ≡ getD (map runOf (now (self .entry) .slots)) slot idle ⌝ }

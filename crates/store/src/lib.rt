@@ -2,7 +2,9 @@
 mod calls;
 mod room;
 mod state;
+mod store;
 
 pub use room::Room;
 pub use room::Set;
 pub use state::Tables;
+pub use store::Store;

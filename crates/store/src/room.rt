@@ -1,12 +1,11 @@
 // The words in which a program keeps the versions.
+ghost use mathlib.Core.Path.{_≡_};
+ghost use Rattle.std.specs.Vec.{made};
+ghost use Rattle.store.specs.Rooms.{SetSized, Sized};
 use std::alloc::AllocError;
 use std::alloc::Global;
-use versions::Versions;
-use versions::Words;
-
-const PLACES: usize = 32769;
-
-const KEYS: usize = 4096;
+use versions::KEYS;
+use versions::PLACES;
 
 // One set of words.
 #[derive(Drop)]
@@ -17,6 +16,7 @@ pub struct Set {
     pub value: Vec<u32>,
 }
 
+// Two sets, and the stack that a sweep needs.
 #[derive(Drop)]
 pub struct Room {
     pub first: Set,
@@ -25,7 +25,9 @@ pub struct Room {
 }
 
 impl Set {
-    fn new(heap: Global) -> Result<Set, AllocError> {
+    fn new(heap: Global) -> Result<Set, AllocError>
+        ensures { λ r. ⌜ made r SetSized ⌝ }
+    {
         Ok(Set {
             heads: vec![in heap; 0u32; KEYS]?,
             next: vec![in heap; 0u32; PLACES]?,
@@ -36,7 +38,10 @@ impl Set {
 }
 
 impl Room {
-    pub fn new(heap: Global) -> Result<Room, AllocError> {
+    // Words of the lengths that the versions want.
+    pub fn new(heap: Global) -> Result<Room, AllocError>
+        ensures { λ r. ⌜ made r Sized ⌝ }
+    {
         Ok(Room {
             first: Set::new(heap)?,
             second: Set::new(heap)?,

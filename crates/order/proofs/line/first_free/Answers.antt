@@ -1,4 +1,3 @@
-use mathlib.Core.Path.{sym}
 use mathlib.Core.List.{map}
 use native.Mathlib.Omega.{arith}
 use Rattle.order.specs.Past.{pastOf}
@@ -10,7 +9,7 @@ returns-then-is-free c =
     let long = c .loop-i .inv .0 .0 in
     record {
       compared = c .is-free .ensures .compared;
-      told = free-at (map pastOf (c .args .pasts .now)) (c .args .gone .now) (c .loop-i .i) (omega (arith, long)) (sym (c .if-is-free .ensures tt .told)) (c .loop-i .inv .1);
+      told = free-at (map pastOf (c .args .pasts .now)) (c .args .gone .now) (c .loop-i .i) (omega (arith, long)) (c .if-is-free .ensures tt .told) (c .loop-i .inv .1);
       within = c .loop-i-test .taken;
     }
 

@@ -1,0 +1,12 @@
+pub mod Anys
+pub mod Places
+pub mod Encoding
+pub mod Entries
+pub mod Reading
+pub mod Replaying
+pub mod Back
+pub mod Cuts
+pub mod Joins
+pub mod Pieces
+pub mod Canon
+pub mod Examples

@@ -1,0 +1,5 @@
+pub mod Records
+pub mod Parsing
+pub mod Files
+pub mod Held
+pub mod Laws
