@@ -166,7 +166,8 @@ impl Tables<'_, '_> {
         self.versions.room() == ROOM
     }
 
-    fn slot(&self, slot: u32) -> Slot
+    // What runs in the slot; a slot that there isn't is idle.
+    pub fn slot(&self, slot: u32) -> Slot
         ensures { λ r. ⌜ runOf r ≡ getD (map runOf (now (self .entry) .slots)) slot idle ⌝ }
     {
         if slot >= SLOTS {

@@ -1,7 +1,9 @@
 // What a store answers.
 ghost use mathlib.Core.Path.{_≡_};
 ghost use mathlib.Core.Bool.{true};
-ghost use mathlib.Core.List.{List};
+ghost use mathlib.Core.List.{List, map};
+ghost use lib.ListN.{getD};
+ghost use Rattle.transactions.specs.Slots.{idle, runOf};
 ghost use Rattle.history.specs.Engine.{fresh, Event, led};
 ghost use Rattle.history.specs.Promise.{Promised};
 ghost use Rattle.store.specs.Calls.{Is, Does, replyOf};
@@ -13,6 +15,7 @@ use model::Answer;
 use model::Call;
 use model::Refusal;
 use model::Request;
+use transactions::Slot;
 
 // Of a call whose slot can't be read only the bounds are looked at.
 fn slotless(call: Call) -> Refusal
@@ -81,6 +84,13 @@ impl<'t, 's, 'a> Store<'t, 's, 'a> {
 }
 
 impl Store<'_, '_, '_> {
+    // What runs in the slot; a slot that there isn't is idle.
+    pub fn slot(&self, slot: u32) -> Slot
+        ensures { λ r. ⌜ runOf r ≡ getD (map runOf (now (self .entry) .tables .now .slots)) slot idle ⌝ }
+    {
+        self.tables.slot(slot)
+    }
+
     // The answer to one request.
     pub fn answer(&mut self, request: Request) -> Answer
         ensures answers { λ r. ⌜ AnswersTo request (now (self .entry)) (now (self .exit)) r ⌝ }

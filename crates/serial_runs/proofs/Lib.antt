@@ -1,0 +1,4 @@
+pub mod Through
+pub mod Numbers
+pub mod Leading
+pub mod Keeping

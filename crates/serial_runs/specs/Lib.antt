@@ -1,0 +1,3 @@
+pub mod Requests
+pub mod Standing
+pub mod Text
