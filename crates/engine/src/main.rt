@@ -13,12 +13,16 @@ use versions::Versions;
 use versions::Words;
 
 fn main(rt: LibcRuntime) -> Result<(), AnyError> {
-    rt.report(run(&rt))
+    let result = run(&rt);
+    if let Err(trouble) = &result {
+        eprintln!(rt, "engine: {trouble}")?;
+    }
+    result
 }
 
 fn run(rt: &LibcRuntime) -> Result<(), AnyError> {
     if env::args(rt)?.nth(1).is_none() {
-        return Err("usage: engine FILE".into());
+        return Err("give the name of the file: engine FILE".into());
     }
     let heap = rt.alloc();
     let mut room = Room::new(heap)?;

@@ -15,7 +15,11 @@ use versions::Versions;
 use versions::Words;
 
 fn main(rt: LibcRuntime) -> Result<(), AnyError> {
-    rt.report(run(&rt))
+    let result = run(&rt);
+    if let Err(trouble) = &result {
+        eprintln!(rt, "lineup: {trouble}")?;
+    }
+    result
 }
 
 fn run(rt: &LibcRuntime) -> Result<(), AnyError> {

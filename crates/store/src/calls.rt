@@ -3,7 +3,7 @@ ghost use mathlib.Core.Path.{_≡_};
 ghost use mathlib.Core.Bool.{true, not};
 ghost use mathlib.Core.List.{map};
 ghost use Prim.Native.Nat.{_<_};
-ghost use lib.Dec.{leb};
+ghost use lib.Dec.{eqb, leb};
 ghost use lib.ListN.{getD};
 ghost use Rattle.std.specs.Of.Vec.{vec-items};
 ghost use Rattle.std.specs.Vec.{made};
@@ -141,7 +141,8 @@ fn busier(slot: &Slot, n: u32) -> u32
 impl<'s, 'a> Tables<'s, 'a> {
     // Tables with no commits and nothing under way.
     pub fn new(heap: Global, versions: &'s mut Versions<'a>) -> Tables<'s, 'a>
-        ensures { λ r. ⌜ (spaces (now (versions .entry)) ≡ 32768 → Is fresh r) ⌝ }
+        ensures fresh { λ r. ⌜ (spaces (now (versions .entry)) ≡ 32768 → Is fresh r) ⌝ }
+        ensures room { λ r. ⌜ spaces (r .versions .now) ≡ spaces (now (versions .entry)) ⌝ }
     {
         versions.clear();
         Tables {
@@ -157,7 +158,8 @@ impl<'s, 'a> Tables<'s, 'a> {
 impl Tables<'_, '_> {
     // Empties the tables. Says whether there is room for all versions that an engine may have.
     pub fn reset(&mut self) -> bool
-        ensures { λ r. ⌜ (r ≡ true → Is fresh (now (self .exit))) ⌝ }
+        ensures room { λ r. ⌜ r ≡ eqb (spaces (now (self .entry) .versions .now)) 32768 ⌝ }
+        ensures fresh { λ r. ⌜ (r ≡ true → Is fresh (now (self .exit))) ⌝ }
     {
         self.versions.clear();
         self.window = Window::new(self.heap);

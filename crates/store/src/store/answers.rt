@@ -4,6 +4,8 @@ ghost use mathlib.Core.Bool.{true};
 ghost use mathlib.Core.List.{List, map};
 ghost use lib.ListN.{getD};
 ghost use Rattle.transactions.specs.Slots.{idle, runOf};
+ghost use lib.Dec.{eqb};
+ghost use Rattle.versions.specs.Store.{spaces};
 ghost use Rattle.history.specs.Engine.{fresh, Event, led};
 ghost use Rattle.history.specs.Promise.{Promised};
 ghost use Rattle.store.specs.Calls.{Is, Does, replyOf};
@@ -76,7 +78,8 @@ fn faulty(tables: &Tables, call: Call) -> Answer
 impl<'t, 's, 'a> Store<'t, 's, 'a> {
     // An empty engine; ready unless the words of the versions have the wrong lengths.
     pub fn over(tables: &'t mut Tables<'s, 'a>) -> Store<'t, 's, 'a>
-        ensures { λ r. ⌜ (r .ready ≡ true → Is fresh (r .tables .now)) ⌝ }
+        ensures ready { λ r. ⌜ r .ready ≡ eqb (spaces (now (tables .entry) .versions .now)) 32768 ⌝ }
+        ensures fresh { λ r. ⌜ (r .ready ≡ true → Is fresh (r .tables .now)) ⌝ }
     {
         let ready = tables.reset();
         Store { tables, ready }

@@ -4,4 +4,4 @@ use Rattle.store.proofs.store.Store.over.Needs as need
 
 pub ghost-result : need.ghost-result
 unfolding run
-ghost-result c = (λ p. ∣ ([], c .reset-ready .ensures p) ∣₁, tt)
+ghost-result c = (λ p. ∣ ([], c .reset-ready .ensures .fresh p) ∣₁, tt)
