@@ -40,7 +40,7 @@ returns-in-Bad c =
     let e = outline_bad (parsed next rest) c.in-Bad.why (c.in-Bad.ensures ∙ ap (λ l. outlined (parsed next l)) (take_rest c.args.bytes.now at)) in
     record {
       answer = ap (surveyed c.args.number) (sym (at-bad c.args.number c.args.bytes.now at next c.loop-size.invariant.0 c.in-Bad.why (replayed-faulty next rest c.in-Bad.why e)));
-      records = read_in c.args.number c.args.bytes.now (omega arith) c.type-inv.bytes;
+      records = read_in c.args.number c.args.bytes.now (omega arith) c.type_inv.bytes;
     }
 
 pub returns-then-next : goal.returns-then-next
@@ -54,14 +54,14 @@ returns-then-next c =
           ap (surveyed c.args.number)
           (sym (at-bad c.args.number c.args.bytes.now at next c.loop-size.invariant.0 WrongNumber
           (replayed-last next rest f.0 c.in-Whole.size (omega (arith, c.if-next.true)) f.1)));
-      records = read_in c.args.number c.args.bytes.now (omega arith) c.type-inv.bytes;
+      records = read_in c.args.number c.args.bytes.now (omega arith) c.type_inv.bytes;
     }
 
-pub overflow-add-next : goal.overflow-add-next
-overflow-add-next c = let b = below c.loop-size.next c.loop-size.invariant.1 c.if-next.false in omega (arith, b)
+pub overflow_add-next : goal.overflow_add-next
+overflow_add-next c = let b = below c.loop-size.next c.loop-size.invariant.1 c.if-next.false in omega (arith, b)
 
-pub overflow-add-at : goal.overflow-add-at
-overflow-add-at c = let h = fits_on (goal.at.overflow-add-at c).In-Whole in omega (arith, h.0, h.1)
+pub overflow_add-at : goal.overflow_add-at
+overflow_add-at c = let h = fits_on (goal.at.overflow_add-at c).In-Whole in omega (arith, h.0, h.1)
 
 pub loop-size-smaller : goal.loop-size-smaller
 loop-size-smaller c = let h = fits_on (goal.at.loop-size-smaller c).In-Whole in omega (arith, h.0, h.1)
@@ -79,8 +79,8 @@ returns c =
     let rest = drop at c.args.bytes.now in
     let so = c.loop-size.invariant.0 in
     let e : c.front-answer.result ≡ outlined (parsed next rest) = c.front-answer.ensures ∙ ap (λ l. outlined (parsed next l)) (take_rest c.args.bytes.now at) in
-    let s = outline_short (parsed next rest) (λ k n f. c.in-default.not-Whole k n (e ∙ f)) (λ why f. c.in-default-answer.not-Bad why (e ∙ f)) in
+    let s = outline_short (parsed next rest) (λ k n f. c.in_default.not-Whole k n (e ∙ f)) (λ why f. c.in_default-answer.not-Bad why (e ∙ f)) in
     record {
       answer = ap (Good at) so.number ∙ ap (surveyed c.args.number) (sym (at_end c.args.number c.args.bytes.now at next so s));
-      records = read_in c.args.number c.args.bytes.now (omega arith) c.type-inv.bytes;
+      records = read_in c.args.number c.args.bytes.now (omega arith) c.type_inv.bytes;
     }

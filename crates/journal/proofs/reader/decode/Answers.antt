@@ -27,5 +27,5 @@ returns-in-Whole c =
           ∙ ap (λ m. entries_of m (drop 6 c.args.bytes.now) ++ drop m c.args.writes.now) (sym f.2)
           ∙ ap (λ l. l ++ drop (length f.0) c.args.writes.now) (sym w.reads)
           ∙ ap (λ r. laid r c.args.writes.now) (sym f.1);
-      whole = record_in c.args.number c.args.bytes.now c.type-inv.bytes;
+      whole = record_in c.args.number c.args.bytes.now c.type_inv.bytes;
     }

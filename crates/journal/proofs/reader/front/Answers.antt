@@ -24,9 +24,9 @@ pub returns-then-found-number : goal.returns-then-found-number
 unfolding parsed checked
 returns-then-found-number c = grind (arith, nat_tests)
 
-pub returns-then-count-gt-MOST-WRITES : goal.returns-then-count-gt-MOST-WRITES
+pub returns-then-count-gt-MOST_WRITES : goal.returns-then-count-gt-MOST_WRITES
 unfolding parsed checked
-returns-then-count-gt-MOST-WRITES c = grind (arith, nat_tests)
+returns-then-count-gt-MOST_WRITES c = grind (arith, nat_tests)
 
 pub returns-then-stray : goal.returns-then-stray
 unfolding parsed checked

@@ -12,8 +12,8 @@ loop-i-preserved c =
     let bs = c.args.bytes.now in
     let n = c.args.count in
     let i = c.loop-i.i in
-    laid_more (entries_of n (drop 6 bs)) c.args.writes.now c.loop-i.writes i c.entry-at.result (there-read n i (drop 6 bs) c.loop-i-test.true) (omega (arith, c.requires.room, c.loop-i-test.true))
-    (c.entry-at.ensures ∙ place_read n i bs c.entry-at.result c.loop-i-test.true) c.loop-i.invariant
+    laid_more (entries_of n (drop 6 bs)) c.args.writes.now c.loop-i.writes i c.entry_at.result (there-read n i (drop 6 bs) c.loop-i-test.true) (omega (arith, c.requires.room, c.loop-i-test.true))
+    (c.entry_at.ensures ∙ place_read n i bs c.entry_at.result c.loop-i-test.true) c.loop-i.invariant
 
 pub returns : goal.returns
 returns c =

@@ -16,21 +16,21 @@ pub loop-i-init : goal.loop-i-init
 unfolding any
 loop-i-init c = refl
 
-pub returns-then-key-at-gt-MOST-KEY : goal.returns-then-key-at-gt-MOST-KEY
-returns-then-key-at-gt-MOST-KEY c =
+pub returns-then-key_at-gt-MOST_KEY : goal.returns-then-key_at-gt-MOST_KEY
+returns-then-key_at-gt-MOST_KEY c =
     let bs = c.args.bytes.now in
     let n = c.args.count in
     let i = c.loop-i.i in
-    let e : c.key-at.result ≡ (get_or (entries_of n (drop 6 bs)) i none).key = c.key-at.ensures ∙ key-read n i bs none c.loop-i-test.true in
-    sym (any_here (λ (e : Entry). ltb 4095 e.key) (entries_of n (drop 6 bs)) i none (there-read n i (drop 6 bs) c.loop-i-test.true) (lt-ltb 4095 _ (omega (arith, e, c.if-key-at-gt-MOST-KEY.true))))
+    let e : c.key_at.result ≡ (get_or (entries_of n (drop 6 bs)) i none).key = c.key_at.ensures ∙ key-read n i bs none c.loop-i-test.true in
+    sym (any_here (λ (e : Entry). ltb 4095 e.key) (entries_of n (drop 6 bs)) i none (there-read n i (drop 6 bs) c.loop-i-test.true) (lt-ltb 4095 _ (omega (arith, e, c.if-key_at-gt-MOST_KEY.true))))
 
 pub loop-i-preserved : goal.loop-i-preserved
 loop-i-preserved c =
     let bs = c.args.bytes.now in
     let n = c.args.count in
     let i = c.loop-i.i in
-    let e : c.key-at.result ≡ (get_or (entries_of n (drop 6 bs)) i none).key = c.key-at.ensures ∙ key-read n i bs none c.loop-i-test.true in
-    any-on (λ (e : Entry). ltb 4095 e.key) (entries_of n (drop 6 bs)) i none (there-read n i (drop 6 bs) c.loop-i-test.true) c.loop-i.invariant (le-ltb 4095 _ (omega (arith, e, c.if-key-at-gt-MOST-KEY.false)))
+    let e : c.key_at.result ≡ (get_or (entries_of n (drop 6 bs)) i none).key = c.key_at.ensures ∙ key-read n i bs none c.loop-i-test.true in
+    any-on (λ (e : Entry). ltb 4095 e.key) (entries_of n (drop 6 bs)) i none (there-read n i (drop 6 bs) c.loop-i-test.true) c.loop-i.invariant (le-ltb 4095 _ (omega (arith, e, c.if-key_at-gt-MOST_KEY.false)))
 
 pub returns : goal.returns
 returns c =

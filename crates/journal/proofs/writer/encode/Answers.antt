@@ -6,8 +6,8 @@ use Rattle.journal.proofs.Encoding.{encoded, not-encoded, many_not, room-not, st
 use Rattle.journal.proofs.Back.{written_back}
 use Rattle.journal.proofs.writer.encode.Goals as goal
 
-pub returns-then-count-gt-MOST-WRITES : goal.returns-then-count-gt-MOST-WRITES
-returns-then-count-gt-MOST-WRITES c = record { bytes = not-encoded _ _ _ (many_not _ _ c.if-count-gt-MOST-WRITES.true); back = tt }
+pub returns-then-count-gt-MOST_WRITES : goal.returns-then-count-gt-MOST_WRITES
+returns-then-count-gt-MOST_WRITES c = record { bytes = not-encoded _ _ _ (many_not _ _ c.if-count-gt-MOST_WRITES.true); back = tt }
 
 pub returns-then-out-size : goal.returns-then-out-size
 returns-then-out-size c = record { bytes = not-encoded _ _ _ (room-not c.args.writes.now (length c.args.out.now) (omega arith)); back = tt }
@@ -21,12 +21,12 @@ returns c =
     let n = c.args.number in
     let es = c.args.writes.now in
     let out = c.args.out.now in
-    let stands : c.put-entries.new.out ≡ written 0 (record_of n es) out =
-    then-written 0 6 (head_bytes n (length es)) (flat_map entry_bytes es) out c.put-head.new.out _ (omega (arith, c.if-out-size.false)) refl
-    c.put-head.ensures c.put-entries.ensures.bytes
+    let stands : c.put_entries.new.out ≡ written 0 (record_of n es) out =
+    then-written 0 6 (head_bytes n (length es)) (flat_map entry_bytes es) out c.put_head.new.out _ (omega (arith, c.if-out-size.false)) refl
+    c.put_head.ensures c.put_entries.ensures.bytes
     in
-    let fine : FineCommit es = (c.if-count-gt-MOST-WRITES.false, c.put-entries.ensures.fine) in
+    let fine : FineCommit es = (c.if-count-gt-MOST_WRITES.false, c.put_entries.ensures.fine) in
     record {
-      bytes = encoded n es out _ c.if-count-gt-MOST-WRITES.false c.if-out-size.false (sym c.if-stray.ensures) stands;
+      bytes = encoded n es out _ c.if-count-gt-MOST_WRITES.false c.if-out-size.false (sym c.if-stray.ensures) stands;
       back = (written_back n es out _ (omega arith) fine stands, fine);
     }

@@ -12,8 +12,8 @@ use Rattle.journal.proofs.writer.put_entries.Goals as goal
 pub loop-e-init : goal.loop-e-init
 loop-e-init c = (omega arith, sym (none_written c.args.at c.args.out.now), tt)
 
-pub put-entry-requires : goal.put-entry-requires
-put-entry-requires c =
+pub put_entry-requires : goal.put_entry-requires
+put_entry-requires c =
     let key = ltb-false 4095 _ (none-at (λ (e : Entry). ltb 4095 e.key) c.args.entries.now c.loop-e.e-index _ c.loop-e-test.true c.requires.keys) in
     record { room = omega arith; key = key }
 
@@ -21,8 +21,8 @@ pub loop-e-preserved : goal.loop-e-preserved
 loop-e-preserved c = (
   omega arith,
   more-written c.args.at c.loop-e.place c.loop-e.e-index c.args.entries.now _ c.args.out.now c.loop-e.out _
-      c.loop-e-test.true c.requires.room c.loop-e.invariant.0 c.loop-e.invariant.1 c.put-entry.ensures.bytes,
-  All-more FineEntry c.args.entries.now c.loop-e.e-index _ c.loop-e-test.true c.loop-e.invariant.2 c.put-entry.ensures.fine,
+      c.loop-e-test.true c.requires.room c.loop-e.invariant.0 c.loop-e.invariant.1 c.put_entry.ensures.bytes,
+  All-more FineEntry c.args.entries.now c.loop-e.e-index _ c.loop-e-test.true c.loop-e.invariant.2 c.put_entry.ensures.fine,
 )
 
 pub returns : goal.returns

@@ -9,7 +9,7 @@ returns c =
     record {
       bytes =
           then-written c.args.at _ (be2 c.args.e.key) (be4 c.args.e.value) c.args.out.now c.put.new.out _ (omega (arith, c.requires.room)) refl
-          (c.put.ensures ∙ ap (λ l. written c.args.at l c.args.out.now) c.to-be-bytes.ensures)
-          (c.put-2.ensures ∙ ap (λ l. written (c.args.at + 2) l c.put.new.out) c.to-be-bytes-2.ensures);
+          (c.put.ensures ∙ ap (λ l. written c.args.at l c.args.out.now) c.to_be_bytes.ensures)
+          (c.put-2.ensures ∙ ap (λ l. written (c.args.at + 2) l c.put.new.out) c.to_be_bytes-2.ensures);
       fine = (c.requires.key, omega arith);
     }

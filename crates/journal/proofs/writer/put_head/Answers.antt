@@ -11,7 +11,7 @@ returns c =
     let first : set xs 0 1 ≡ written 0 (1 ∷ []) xs = set-written 0 1 xs (omega (arith, c.requires)) in
     let number : c.put.new.out ≡ written 0 (1 ∷ be4 c.args.number) xs =
     then-written 0 1 (1 ∷ []) (be4 c.args.number) xs (set xs 0 1) c.put.new.out (omega (arith, c.requires)) refl first
-    (c.put.ensures ∙ ap (λ l. written 1 l (set xs 0 1)) c.to-be-bytes.ensures)
+    (c.put.ensures ∙ ap (λ l. written 1 l (set xs 0 1)) c.to_be_bytes.ensures)
     in
     let long : 5 < length c.put.new.out = omega (arith, c.requires, length-set xs 0 1) in
     then-written 0 5 (1 ∷ be4 c.args.number) (c.args.count ∷ []) xs c.put.new.out _ (omega (arith, c.requires)) refl number

@@ -11,13 +11,13 @@ pub loop-e-init : goal.loop-e-init
 unfolding any
 loop-e-init c = refl
 
-pub returns-then-e-gt-MOST-KEY : goal.returns-then-e-gt-MOST-KEY
-returns-then-e-gt-MOST-KEY c =
-    sym (any_here (λ (e : Entry). ltb 4095 e.key) c.args.entries.now c.loop-e.e-index _ c.loop-e-test.true (lt-ltb 4095 _ c.if-e-gt-MOST-KEY.true))
+pub returns-then-e-gt-MOST_KEY : goal.returns-then-e-gt-MOST_KEY
+returns-then-e-gt-MOST_KEY c =
+    sym (any_here (λ (e : Entry). ltb 4095 e.key) c.args.entries.now c.loop-e.e-index _ c.loop-e-test.true (lt-ltb 4095 _ c.if-e-gt-MOST_KEY.true))
 
 pub loop-e-preserved : goal.loop-e-preserved
 loop-e-preserved c =
-    any-on (λ (e : Entry). ltb 4095 e.key) c.args.entries.now c.loop-e.e-index _ c.loop-e-test.true c.loop-e.invariant (le-ltb 4095 _ c.if-e-gt-MOST-KEY.false)
+    any-on (λ (e : Entry). ltb 4095 e.key) c.args.entries.now c.loop-e.e-index _ c.loop-e-test.true c.loop-e.invariant (le-ltb 4095 _ c.if-e-gt-MOST_KEY.false)
 
 pub returns : goal.returns
 returns c = sym (ap strays (sym (take_all _ _ c.loop-e-test.false)) ∙ c.loop-e.invariant)

@@ -5,7 +5,7 @@ use Rattle.lines.proofs.short.append.Goals as goal
 
 pub returns : goal.returns
 returns c =
-    let e = c.extend-from-slice in
+    let e = c.extend_from_slice in
     let old = vec_items c.args.out.now in
     let text = drop c.args.start c.args.text.now in
     let items = e.ensures.items ∙ ap (λ (bs : List ℕ). cond (is_ok e.result) (old ++ bs) old) (spelled_part c.args.start c.args.text.now c.told-text) in

@@ -8,4 +8,4 @@ tested : (xs ys zs : List ℕ) (r : Bool) → ys ≡ zs → Decides r (xs ≡ ys
 tested xs ys zs r e h = search (rules, bytes_eq-Decides)
 
 pub returns : goal.returns
-returns c = tested _ _ _ _ c.as-bytes.ensures.value (slice_eq-Decides Decides-eqb _ _ _ c.eq.ensures)
+returns c = tested _ _ _ _ c.as_bytes.ensures.value (slice_eq-Decides Decides-eqb _ _ _ c.eq.ensures)

@@ -23,13 +23,13 @@ returns-then-len-self c =
       fine = λ e. absurd (both_ways false refl e);
     }
 
-pub returns-in-default : goal.returns-in-default
-returns-in-default c =
+pub returns-in_default : goal.returns-in_default
+returns-in_default c =
     let n = c.args.number in
     let es = c.args.writes.now in
     let bytes = c.args.self.now.bytes.now in
     let len = c.args.self.now.len in
-    let h = subst (λ l. Encoded n es l c.encode.new.out None) (take_rest bytes len) c.in-default.ensures.bytes in
+    let h = subst (λ l. Encoded n es l c.encode.new.out None) (take_rest bytes len) c.in_default.ensures.bytes in
     let same = same_bytes n es len (length bytes - len) bytes c.encode.new.out c.if-len-self.false refl h in
     record {
       bytes = (no_fit n es len (length bytes - len) bytes c.encode.new.out c.if-len-self.false refl h, ap (take len) same, ap (λ l. length l - len) same);
@@ -37,8 +37,8 @@ returns-in-default c =
       fine = λ e. absurd (both_ways false refl e);
     }
 
-pub overflow-add-self : goal.overflow-add-self
-overflow-add-self c =
+pub overflow_add-self : goal.overflow_add-self
+overflow_add-self c =
     let bytes = c.args.self.now.bytes.now in
     let len = c.args.self.now.len in
     let w = within c.args.number c.args.writes.now len (length bytes - len) bytes c.encode.new.out c.if-len-self.false refl c.in-Some.n (lent c) in

@@ -8,7 +8,7 @@ returns-then-end-le-LONGEST c =
     let chunk = c.args.chunk.now in
     let buffer = c.args.self.now in
     let rest = take_rest chunk c.args.from in
-    let there = line-there _ (drop c.args.from chunk) c.line-end-end.result rest c.line-end-end.ensures.value c.if-end-rest.true in
+    let there = line-there _ (drop c.args.from chunk) c.line_end-end.result rest c.line_end-end.ensures.value c.if-end-rest.true in
     record {
       bound = omega (arith, c.if-end-rest.true, ap length rest, length-drop c.args.from chunk);
       place = omega (arith, there.1);

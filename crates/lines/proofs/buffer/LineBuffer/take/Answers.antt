@@ -13,13 +13,13 @@ loop-at-smaller-in-Continue· c = omega (arith, advances c.args.chunk.now c.loop
 pub loop-at-smaller : goal.loop-at-smaller
 loop-at-smaller c = omega (arith, advances c.args.chunk.now c.loop-at.at c.loop-at-test.true, c.next-next.ensures.place, c.next-next.ensures.bound)
 
-pub returns-in-err-push : goal.returns-in-err-push
-returns-in-err-push c = record {
+pub returns-in_err-push : goal.returns-in_err-push
+returns-in_err-push c = record {
   took = λ t h.
       let x = c.loop-at.invariant.1 t h in
-      took_part c.from-residual.result t c.args.chunk.now (vec_items c.args.out.now) (vec_items c.push.new.self)
-      (requests x.0 (drop c.loop-at.at c.args.chunk.now)) c.next-next.new.self c.from-residual.ensures.0
-      (ap (λ (y : List Request). y ++ requests x.0 (drop c.loop-at.at c.args.chunk.now)) c.in-err-push.ensures.items ∙ x.2);
+      took_part c.from_residual.result t c.args.chunk.now (vec_items c.args.out.now) (vec_items c.push.new.self)
+      (requests x.0 (drop c.loop-at.at c.args.chunk.now)) c.next-next.new.self c.from_residual.ensures.0
+      (ap (λ (y : List Request). y ++ requests x.0 (drop c.loop-at.at c.args.chunk.now)) c.in_err-push.ensures.items ∙ x.2);
   cut = cut_anywhere;
 }
 
@@ -33,7 +33,7 @@ loop-at-preserved-in-Continue· c = (
       let q = rest_is c.args.chunk.now c.loop-at.at c.next-next.result.0 c.next-next.ensures.place in (
         [],
         y.2,
-        line_taken (vec_items c.loop-at.out) (vec_items c.push.new.self) _ _ x.0 s (drop c.next-next.result.0 c.args.chunk.now) y.0 y.1 q c.in-ok-push.ensures.items x.2,
+        line_taken (vec_items c.loop-at.out) (vec_items c.push.new.self) _ _ x.0 s (drop c.next-next.result.0 c.args.chunk.now) y.0 y.1 q c.in_ok-push.ensures.items x.2,
         ap (pending []) (sym q) ∙ sym (scan-ended (λ u v. v) (λ u. u) x.0 s y.0) ∙ x.3,
       ),
 )
@@ -44,7 +44,7 @@ loop-at-preserved c = (
   λ t h.
       let x = c.loop-at.invariant.1 t h in
       let s : List ℕ = drop c.loop-at.at c.args.chunk.now in
-      let y = subst (Stepped x.0 s c.next-next.new.self) c.in-default.is (c.next-next.ensures.taken x.0 x.1) in
+      let y = subst (Stepped x.0 s c.next-next.new.self) c.in_default.is (c.next-next.ensures.taken x.0 x.1) in
       let q = rest_is c.args.chunk.now c.loop-at.at c.next-next.result.0 c.next-next.ensures.place in (
         x.0 ++ up_to s,
         y.1,

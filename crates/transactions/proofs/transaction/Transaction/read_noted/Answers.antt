@@ -7,8 +7,8 @@ use Rattle.transactions.proofs.Arrays.{within_more, length-reads, still_within, 
 use Rattle.transactions.proofs.transaction.Transaction.read_noted.Goals as goal
 use Rattle.transactions.proofs.transaction.Transaction.read_noted.Goals.{then-n-lt64, else-n-lt64}
 
-pub invariant-of-self : goal.invariant-of-self
-invariant-of-self c =
+pub invariant_of-self : goal.invariant_of-self
+invariant_of-self c =
     let t = c.args.self in
     elim c.if-n-lt64.branch [
       | then-n-lt64 w ↦

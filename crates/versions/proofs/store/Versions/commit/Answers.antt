@@ -16,6 +16,6 @@ returns c =
     let es = c.args.writes.now in
     let n = c.args.number in
     record {
-      done = (allowed (outside es) (room_for v es) c.if-outside.ensures c.if-not-room-for.ensures.value, c.commit.ensures.views, omega (arith, c.commit.ensures.good.4, c.commit.ensures.count, v.good.4), c.commit.ensures.room);
+      done = (allowed (outside es) (room_for v es) c.if-outside.ensures c.if-not-room_for.ensures.value, c.commit.ensures.views, omega (arith, c.commit.ensures.good.4, c.commit.ensures.count, v.good.4), c.commit.ensures.room);
       history = λ done floor t h same next low k lt. c.commit.ensures.views k ∙ ap (committed n es k) (h k lt) ∙ commit-by done t k floor n es same next low;
     }

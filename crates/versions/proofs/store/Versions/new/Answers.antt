@@ -9,6 +9,6 @@ returns c =
     record {
       none = c.over-chains.ensures.views;
       size = total-none (view c.over-chains.result) c.over-chains.ensures.views;
-      spaces = c.over-chains.ensures.room ∙ c.room-in-room.ensures.room;
+      spaces = c.over-chains.ensures.room ∙ c.room_in-room.ensures.room;
       history = λ floor k lt. c.over-chains.ensures.views k ∙ sym (nothing_yet k floor);
     }

@@ -23,8 +23,8 @@ pub returns : goal.returns
 returns c =
     let v = c.args.self.now in
     let es = c.args.writes.now in
-    let value : leb c.versions-of.result (c.args.self.now.chains.room - c.args.self.now.chains.count) ≡ leb (size c.args.self.now + keys_of c.args.writes.now) (spaces c.args.self.now)
-    = fits c.versions-of.result (keys_of es) v.chains.count (size v) v.chains.room c.versions-of.ensures v.good.4 v.good.1 in
+    let value : leb c.versions_of.result (c.args.self.now.chains.room - c.args.self.now.chains.count) ≡ leb (size c.args.self.now + keys_of c.args.writes.now) (spaces c.args.self.now)
+    = fits c.versions_of.result (keys_of es) v.chains.count (size v) v.chains.room c.versions_of.ensures v.good.4 v.good.1 in
     let t = told v es _ value in
     record { value = value; enough = t.0; history = t.1 }
 
