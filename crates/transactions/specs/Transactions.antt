@@ -1,5 +1,5 @@
 -- What a transaction's arrays stand for.
-use Rattle.std.specs.Prelude.{ℕ, cond, List, map, length, take, nat_lt}
+use Rattle.std.specs.Prelude.{◌≡◌, ℕ, ◌<◌, ◌≤◌, cond, List, map, length, take, Ok, Err, Result, nat_lt}
 use Rattle.model.specs.declared.Entry.{Entry}
 use Rattle.model.specs.Transactions.{Txn, with_read, with_write}
 use Rattle.transactions.specs.declared.noted.NotedRead.{NotedRead}
@@ -15,6 +15,16 @@ noted_of t = take t.read_count t.reads
 
 abbrev pub model_of : Transaction → Txn
 model_of t = record { level = t.level; begin = t.begin; reads = map (read_of (writes_of t)) (noted_of t); writes = writes_of t }
+
+-- the outcome of one read more: refused where there are 64 already, and then the transaction is as it was
+abbrev pub ReadNoted : Transaction → ℕ → ℕ → ℕ → Result Transaction Transaction → Type 0
+ReadNoted t a b at (Ok u) = (length (model_of t).reads < 64) × (model_of u ≡ with_read a b at (model_of t))
+ReadNoted t a b at (Err u) = (64 ≤ length (model_of t).reads) × (u ≡ t)
+
+-- the same of one write more
+abbrev pub WriteAdded : Transaction → Entry → Result Transaction Transaction → Type 0
+WriteAdded t e (Ok u) = (length (model_of t).writes < 64) × (model_of u ≡ with_write e (model_of t))
+WriteAdded t e (Err u) = (64 ≤ length (model_of t).writes) × (u ≡ t)
 
 -- with one read or one write more; as it was where it has 64
 abbrev pub noted : ℕ → ℕ → ℕ → Txn → Txn

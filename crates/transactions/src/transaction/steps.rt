@@ -1,7 +1,7 @@
 ghost use Rattle.std.specs.Prelude.{◌≡◌, length, nat_le};
 ghost use Rattle.model.specs.Transactions.{began, moment};
 ghost use Rattle.transactions.specs.Noted.{Leaves};
-ghost use Rattle.transactions.specs.Transactions.{noted_of, model_of, noted, added};
+ghost use Rattle.transactions.specs.Transactions.{noted_of, model_of, ReadNoted, WriteAdded, noted, added};
 
 use super::*;
 use crate::looks::*;
@@ -30,8 +30,41 @@ impl Transaction {
         }
     }
 
+    // With one read more; where it has 64, the transaction as it was.
+    pub fn read_noted(self, from: u32, to: u32, at: u32) -> Result<Transaction, Transaction>
+        ensures { ReadNoted self from to at result }
+    {
+        let n = self.read_count;
+        if n >= 64 {
+            return Err(self);
+        }
+        let mut t = self;
+        t.reads[n] = NotedRead {
+            from,
+            to,
+            at,
+            own: t.write_count as u32,
+        };
+        t.read_count = n + 1;
+        Ok(t)
+    }
+
+    // With one write more; where it has 64, the transaction as it was.
+    pub fn write_added(self, e: Entry) -> Result<Transaction, Transaction>
+        ensures { WriteAdded self e result }
+    {
+        let n = self.write_count;
+        if n >= 64 {
+            return Err(self);
+        }
+        let mut t = self;
+        t.writes[n] = e;
+        t.write_count = n + 1;
+        Ok(t)
+    }
+
     // With one read more; as it was where it has 64.
-    pub fn read_noted(mut self, from: u32, to: u32, at: u32) -> Transaction
+    pub fn noted(mut self, from: u32, to: u32, at: u32) -> Transaction
         ensures { model_of result ≡ noted from to at (model_of self) }
     {
         let n = self.read_count;
@@ -48,7 +81,7 @@ impl Transaction {
     }
 
     // With one write more; as it was where it has 64.
-    pub fn write_added(mut self, e: Entry) -> Transaction
+    pub fn added(mut self, e: Entry) -> Transaction
         ensures { model_of result ≡ added e (model_of self) }
     {
         let n = self.write_count;

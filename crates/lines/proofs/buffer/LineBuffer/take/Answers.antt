@@ -7,8 +7,8 @@ use Rattle.lines.proofs.buffer.LineBuffer.take.Goals as goal
 advances : (c : List ℕ) (i : ℕ) → i < length c → 0 < past (drop i c)
 advances c i h = let e : length (drop i c) ≡ length c - i = length-drop i c in past-least (drop i c) (omega arith)
 
-pub loop-at-smaller-in-Continue· : goal.loop-at-smaller-in-Continue·
-loop-at-smaller-in-Continue· c = omega (arith, advances c.args.chunk.now c.loop-at.at c.loop-at-test.true, c.next-next.ensures.place, c.next-next.ensures.bound)
+pub loop-at-smaller-in-Continue-1 : goal.loop-at-smaller-in-Continue-1
+loop-at-smaller-in-Continue-1 c = omega (arith, advances c.args.chunk.now c.loop-at.at c.loop-at-test.true, c.next-next.ensures.place, c.next-next.ensures.bound)
 
 pub loop-at-smaller : goal.loop-at-smaller
 loop-at-smaller c = omega (arith, advances c.args.chunk.now c.loop-at.at c.loop-at-test.true, c.next-next.ensures.place, c.next-next.ensures.bound)
@@ -23,8 +23,8 @@ returns-in_err-push c = record {
   cut = cut_anywhere;
 }
 
-pub loop-at-preserved-in-Continue· : goal.loop-at-preserved-in-Continue·
-loop-at-preserved-in-Continue· c = (
+pub loop-at-preserved-in-Continue-1 : goal.loop-at-preserved-in-Continue-1
+loop-at-preserved-in-Continue-1 c = (
   c.next-next.ensures.bound,
   λ t h.
       let x = c.loop-at.invariant.1 t h in

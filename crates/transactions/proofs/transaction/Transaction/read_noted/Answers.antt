@@ -1,45 +1,26 @@
-use Rattle.std.proofs.Common.{◌≡◌, ◌<◌, ◌≤◌, length, take, sym, ap, ◌∙◌, subst, arith, length-set}
+use Rattle.std.proofs.Common.{◌≡◌, ◌<◌, ◌≤◌, length, take, refl, arith, length-set}
 use Rattle.std.proofs.lemmas.List.{take-take}
-use Rattle.model.specs.Transactions.{with_read}
-use Rattle.transactions.specs.declared.transaction.Transaction.{Transaction}
-use Rattle.transactions.specs.Transactions.{writes_of, model_of, noted}
-use Rattle.transactions.proofs.Arrays.{within_more, length-reads, still_within, few-cond, full_cond, same_model, model_read}
+use Rattle.transactions.specs.Transactions.{writes_of}
+use Rattle.transactions.proofs.Arrays.{read_more, within_more, length-reads}
 use Rattle.transactions.proofs.transaction.Transaction.read_noted.Goals as goal
-use Rattle.transactions.proofs.transaction.Transaction.read_noted.Goals.{then-n-lt64, else-n-lt64}
 
-pub invariant_of-self : goal.invariant_of-self
-invariant_of-self c =
+pub invariant_of-t : goal.invariant_of-t
+invariant_of-t c =
     let t = c.args.self in
-    elim c.if-n-lt64.branch [
-      | then-n-lt64 w ↦
-          let l : t.read_count < length t.reads = omega arith in
-          let rs = ap (λ s. s.1.1.0) w.self-is in
-          let n = ap (λ s. s.1.1.1.0) w.self-is in
-          let ws = ap (λ s. s.1.1.1.1.0) w.self-is in
-          let m = ap (λ s. s.1.1.1.1.1.0) w.self-is in
-          (ap length rs ∙ simp length-set (omega arith), (ap length ws ∙ omega arith, (omega arith, (omega arith, (still_within rs n m (within_more _ _ _ _ l (omega arith) t.own_within), tt)))))
-      | else-n-lt64 w ↦
-          let rs = ap (λ s. s.1.1.0) w.self-is in
-          let n = ap (λ s. s.1.1.1.0) w.self-is in
-          let ws = ap (λ s. s.1.1.1.1.0) w.self-is in
-          let m = ap (λ s. s.1.1.1.1.1.0) w.self-is in
-          (ap length rs ∙ omega arith, (ap length ws ∙ omega arith, (omega arith, (omega arith, (still_within rs n m t.own_within, tt)))))
-    ]
+    let l : t.read_count < length t.reads = omega arith in
+    record { reads_long = simp length-set (omega arith); writes_long = omega arith; few_reads = omega arith; few_writes = omega arith; own_within = within_more _ _ _ _ l (omega arith) t.own_within }
 
 pub returns : goal.returns
 returns c =
     let t = c.args.self in
+    let l : t.read_count < length t.reads = omega arith in
     let m : t.read_count ≤ length t.reads = omega arith in
-    let n = length-reads (writes_of t) t.reads t.read_count m in
-    let new = with_read c.args.from c.args.to c.args.at (model_of t) in
-    elim c.if-n-lt64.branch [
-      | then-n-lt64 w ↦
-          let is = w.self-is in
-          few-cond (length (model_of t).reads) _ new (model_of t) (omega (arith, n))
-          (same_model (ap (λ s. s.0) is) (ap (λ s. s.1.0) is) (ap (λ s. s.1.1.0) is) (ap (λ s. s.1.1.1.0) is) (ap (λ s. s.1.1.1.1.0) is) (ap (λ s. s.1.1.1.1.1.0) is)
-          ∙ model_read t.level t.begin t.reads t.read_count t.writes t.write_count c.args.from c.args.to c.args.at (omega arith))
-      | else-n-lt64 w ↦
-          let is = w.self-is in
-          full_cond (length (model_of t).reads) _ new (model_of t) (omega (arith, n))
-          (same_model (ap (λ s. s.0) is) (ap (λ s. s.1.0) is) (ap (λ s. s.1.1.0) is) (ap (λ s. s.1.1.1.0) is) (ap (λ s. s.1.1.1.1.0) is) (ap (λ s. s.1.1.1.1.1.0) is))
-    ]
+    let a = read_more (writes_of t) t.reads t.read_count (record { from = c.args.from; to = c.args.to; at = c.args.at; own = t.write_count }) l in
+    let b : take t.write_count (writes_of t) ≡ writes_of t = take-take t.write_count t.write_count t.writes (omega arith) in
+    (omega (arith, length-reads (writes_of t) t.reads t.read_count m), cc)
+
+pub returns-then-n-ge64 : goal.returns-then-n-ge64
+returns-then-n-ge64 c =
+    let t = c.args.self in
+    let m : t.read_count ≤ length t.reads = omega arith in
+    (omega (arith, length-reads (writes_of t) t.reads t.read_count m), refl)
