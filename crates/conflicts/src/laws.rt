@@ -2,16 +2,22 @@
 ghost use Rattle.conflicts.specs.Laws.{FirstWins, Lowest, NoPivot};
 
 // Of two under way together, the later a Snapshot or a Serial, that wrote the same key at most one has committed.
-pub fn first_committer_wins()
+pub fn first_committer_wins() -> u8
     ensures { FirstWins }
-{}
+{
+    0
+}
 
 // No committed Serial is a pivot.
-pub fn nobody_is_a_pivot()
+pub fn nobody_is_a_pivot() -> u8
     ensures { NoPivot }
-{}
+{
+    0
+}
 
 // The numbers that are kept of a commit, of one that it passes and of one that passes it, are the lowest.
-pub fn lowest_is_kept()
+pub fn lowest_is_kept() -> u8
     ensures { Lowest }
-{}
+{
+    0
+}

@@ -21,7 +21,7 @@ abbrev pub text_of : Answer → List ℕ
 text_of Done = []
 text_of (Found v) = pairs false (vec_items v) ++ 10 ∷ []
 text_of (Committed n) = decimal n ++ 10 ∷ []
-text_of (Shown s) = counts_text s
+text_of (Shown s) = decimal s.commits ++ (codes " " ++ (decimal s.versions ++ (codes " " ++ (decimal s.busy ++ 10 ∷ []))))
 text_of (Refused y) = codes "no " ++ (decimal (number_of y) ++ 10 ∷ [])
 
 -- memory can fail only where something is written

@@ -1,85 +1,60 @@
 // The text of an answer.
-ghost use Rattle.std.specs.Prelude.{◌≡◌, false, [], ◌∷◌, ◌++◌, codes, decimal, OnOk};
+ghost use Rattle.std.specs.Prelude.{◌≡◌, false, [], ◌∷◌, ◌++◌, string_bytes, OnOk};
 ghost use Rattle.lines.specs.Laws.{OneLine};
-ghost use Rattle.lines.specs.Said.{counts_text, text_of, pair, pairs, Refusable};
+ghost use Rattle.lines.specs.Said.{text_of, pair, pairs};
 
-use crate::short::*;
-use model::{Answer, Counts, Entry};
-use std::alloc::AllocError;
+use model::{Answer, Entry};
+use std::fmt;
+use std::fmt::Write;
 
-// Writes the answer's text behind what stands in `out`. An answer without text is not refused.
-pub fn say(out: &mut Vec<u8>, answer: &Answer) -> Result<(), AllocError>
-    ensures text { OnOk result (out.new.items ≡ out.old.items ++ text_of answer.now) }
-    ensures memory { Refusable answer.now result }
+// Writes the answer's text behind what stands in `out`.
+pub fn say(out: &mut String, answer: &Answer) -> fmt::Result
+    ensures text { OnOk result (string_bytes out.new ≡ string_bytes out.old ++ text_of answer.now) }
     ensures line { OneLine }
 {
     match answer {
         Answer::Done => Ok(()),
         Answer::Found(entries) => say_entries(out, entries),
-        Answer::Committed(n) => say_commit(out, *n),
-        Answer::Shown(counts) => say_counts(out, *counts),
-        Answer::Refused(refusal) => say_refusal(out, refusal.number() as u32),
+        Answer::Committed(n) => Ok(writeln!(out, "{n}")?),
+        Answer::Shown(counts) => {
+            let commits = counts.commits;
+            let versions = counts.versions;
+            let busy = counts.busy;
+            Ok(writeln!(out, "{commits} {versions} {busy}")?)
+        }
+        Answer::Refused(refusal) => {
+            let n = refusal.number();
+            Ok(writeln!(out, "no {n}")?)
+        }
     }
 }
 
-// The commit's number, on one line.
-fn say_commit(out: &mut Vec<u8>, n: u32) -> Result<(), AllocError>
-    ensures { OnOk result (out.new.items ≡ out.old.items ++ (decimal n ++ 10 ∷ [])) }
-{
-    let mut text = [0; ROOM];
-    let at = put(&mut text, ROOM, b'\n');
-    let at = spell(&mut text, at, n);
-    append(out, &text, at)
-}
-
-// The number of a refusal behind `no`, on one line.
-fn say_refusal(out: &mut Vec<u8>, n: u32) -> Result<(), AllocError>
-    ensures { OnOk result (out.new.items ≡ out.old.items ++ (codes "no " ++ (decimal n ++ 10 ∷ []))) }
-{
-    let mut text = [0; ROOM];
-    let at = put(&mut text, ROOM, b'\n');
-    let at = spell(&mut text, at, n);
-    let at = put(&mut text, at, b' ');
-    let at = put(&mut text, at, b'o');
-    let at = put(&mut text, at, b'n');
-    append(out, &text, at)
-}
-
-// The three numbers, a space apart, on one line.
-fn say_counts(out: &mut Vec<u8>, counts: Counts) -> Result<(), AllocError>
-    ensures { OnOk result (out.new.items ≡ out.old.items ++ counts_text counts) }
-{
-    let mut text = [0; ROOM];
-    let at = put(&mut text, ROOM, b'\n');
-    let at = spell(&mut text, at, counts.busy);
-    let at = put(&mut text, at, b' ');
-    let at = spell(&mut text, at, counts.versions);
-    let at = put(&mut text, at, b' ');
-    let at = spell(&mut text, at, counts.commits);
-    append(out, &text, at)
-}
-
 // The entries as K=V, a space apart, on one line.
-fn say_entries(out: &mut Vec<u8>, entries: &[Entry]) -> Result<(), AllocError>
-    ensures { OnOk result (out.new.items ≡ out.old.items ++ (pairs false entries.now ++ 10 ∷ [])) }
+fn say_entries(out: &mut String, entries: &[Entry]) -> fmt::Result
+    ensures { OnOk result (string_bytes out.new ≡ string_bytes out.old ++ (pairs false entries.now ++ 10 ∷ [])) }
 {
     let mut spaced = false;
     for e in entries {
         say_entry(out, spaced, *e)?;
         spaced = true;
     }
-    out.extend_from_slice(b"\n")
+    end_line(out)
 }
 
-fn say_entry(out: &mut Vec<u8>, spaced: bool, e: Entry) -> Result<(), AllocError>
-    ensures { OnOk result (out.new.items ≡ out.old.items ++ pair spaced e) }
+fn say_entry(out: &mut String, spaced: bool, e: Entry) -> fmt::Result
+    ensures { OnOk result (string_bytes out.new ≡ string_bytes out.old ++ pair spaced e) }
 {
-    let mut text = [0; ROOM];
-    let at = spell(&mut text, ROOM, e.value);
-    let at = put(&mut text, at, b'=');
-    let mut at = spell(&mut text, at, e.key);
+    let key = e.key;
+    let value = e.value;
     if spaced {
-        at = put(&mut text, at, b' ');
+        Ok(write!(out, " {key}={value}")?)
+    } else {
+        Ok(write!(out, "{key}={value}")?)
     }
-    append(out, &text, at)
+}
+
+fn end_line(out: &mut String) -> fmt::Result
+    ensures { OnOk result (string_bytes out.new ≡ string_bytes out.old ++ 10 ∷ []) }
+{
+    Ok(writeln!(out)?)
 }

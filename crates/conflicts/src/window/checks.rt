@@ -81,7 +81,7 @@ impl Window {
         ensures { Taken (model_of t.now) number (marks_of self.old) (marks_of self.new) result }
     {
         self.all.reserve(1)?;
-        let heap = self.all.allocator();
+        let heap = *self.all.allocator();
         let from = self.unseen_from(t.begin);
         let new = marked(heap, t, number, &self.all[from..])?;
         let rising = self.rising_with(number);

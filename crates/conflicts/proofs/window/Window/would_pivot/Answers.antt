@@ -9,7 +9,7 @@ pub returns : goal.returns
 returns c =
     let t = model_of c.args.t.now in
     let cs = vec_items c.args.self.now.all in
-    let r = c.unseen-from-from.result in
-    let m : c.pivot-with.result ≡ would_pivot t (marks_of c.args.self.now) =
-    c.pivot-with.ensures ∙ ap (λ l. would_pivot t (map mark_of l)) (part_is c.deref.result.now cs r c.deref.ensures.value) ∙ sym (pivot_behind t cs r c.unseen-from-from.ensures.seen) in
-    record { marks = m; rules = pivot_by_marks c.args.self.now t c.pivot-with.result m }
+    let r = c.unseen_from-from.result in
+    let m : c.pivot_with.result ≡ would_pivot t (marks_of c.args.self.now) =
+    c.pivot_with.ensures ∙ ap (λ l. would_pivot t (map mark_of l)) (part_is c.deref.result.now cs r c.deref.ensures.value) ∙ sym (pivot_behind t cs r c.unseen_from-from.ensures.seen) in
+    record { marks = m; rules = pivot_by_marks c.args.self.now t c.pivot_with.result m }

@@ -1,6 +1,6 @@
 use Rattle.std.proofs.Common.{[], ◌∷◌, ◌++◌, vec_items, codes, decimal}
 use Rattle.lines.proofs.Joins.{onto, same_made}
-use Rattle.lines.proofs.text.say_refusal.Goals as goal
+use Rattle.lines.proofs.bytes.say_refusal.Goals as goal
 
 pub returns : goal.returns
 returns c =

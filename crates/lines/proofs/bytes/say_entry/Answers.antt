@@ -2,8 +2,8 @@ use Rattle.std.proofs.Common.{◌≡◌, ℕ, List, [], ◌++◌, drop, vec_item
 use Rattle.std.proofs.lemmas.Bool.{cond-true, cond-false}
 use Rattle.lines.specs.Said.{pair}
 use Rattle.lines.proofs.Joins.{onto, same_made}
-use Rattle.lines.proofs.text.say_entry.Goals as goal
-use Rattle.lines.proofs.text.say_entry.Goals.{then-spaced, else-spaced}
+use Rattle.lines.proofs.bytes.say_entry.Goals as goal
+use Rattle.lines.proofs.bytes.say_entry.Goals.{then-spaced, else-spaced}
 
 pub returns : goal.returns
 returns c =
