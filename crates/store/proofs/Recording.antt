@@ -21,7 +21,7 @@ use Rattle.history.specs.Pasts.{writes_of}
 use Rattle.history.specs.Sound.{Sound}
 use Rattle.history.proofs.Lists.{none_or_some}
 use Rattle.store.specs.declared.state.Tables.{Tables}
-use Rattle.store.specs.Calls.{Is, reply_of, writes_in, new_in, records_in, Recorded, lack_in, Performs, PerformsOr, entered}
+use Rattle.store.specs.Calls.{Is, reply_of, writes_in, new_in, records_in, Recorded, lack_in, Performs, PerformsRecording, entered}
 
 -- no commit more, no record more
 pub nothing_new : (e f : Engine) (j : Journal) → txns f ≡ txns e → Recorded e f j j
@@ -96,9 +96,9 @@ performed-same Stop e n = ap (map txn_of) (take_all (count e) e.done (omega arit
 performed-same Show e n = refl
 
 -- a call that commits nothing
-pub done-by : (c d : Call) (s t : Tables) (j : Journal) (a : Answer) → c ≡ d → NoCommit d → ((e : Engine) → Is e s → reply_of a ≡ replied d e) → Performs d s t → PerformsOr c s j t j a
+pub done-by : (c d : Call) (s t : Tables) (j : Journal) (a : Answer) → c ≡ d → NoCommit d → ((e : Engine) → Is e s → reply_of a ≡ replied d e) → Performs d s t → PerformsRecording c s j t j a
 done-by c d s t j a p n says does =
-    subst (λ (x : Call). PerformsOr x s j t j a) (sym p) (λ e snd fit free. inl (does e snd fit free, says e fit, nothing_new e (performed d e) j (performed-same d e n)))
+    subst (λ (x : Call). PerformsRecording x s j t j a) (sym p) (λ e snd fit free. inl (does e snd fit free, says e fit, nothing_new e (performed d e) j (performed-same d e n)))
 
 -- the same writes are outside for the versions and stray for the journal
 strays_as : (es : List Entry) → outside es ≡ false → strays es ≡ false

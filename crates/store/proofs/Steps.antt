@@ -13,7 +13,7 @@ use Rattle.model.specs.Transactions as rules
 use Rattle.model.specs.Transactions.{Txn, puts, after, empty, moment, is_serial, is_latest, began, with_write, with_read}
 use Rattle.transactions.specs.declared.slot.Slot.{Slot}
 use Rattle.transactions.specs.declared.slot.Slot.TheVariants.{Idle}
-use Rattle.transactions.specs.Slots.{Run, idle, going, run_of, wrote, read}
+use Rattle.transactions.specs.Slots.{Run, idle, going, run_of, added_in, noted_in}
 use Rattle.versions.specs.declared.store.Versions.{Versions}
 use Rattle.versions.specs.Store.{spaces, room_for, refusal}
 use Rattle.versions.specs.Writes.{outside}
@@ -174,7 +174,7 @@ pub commit-goes : (e : Engine) (i : ℕ) → refusal_of (Commit i) e ≡ None �
 commit-goes e i p = busy_by (commit_refusal e) (slot_at i e) (goes_through (Commit i) e p).1
 
 pub fits-write : (e : Engine) (v : Versions) (w : Window) (ss : List Slot) (n : ℕ) → Fits e v w ss n → (v₁ : Versions) (w₁ : Window) (ts : List Slot) (m : ℕ) (i k x : ℕ) (r s : Run) →
-    refusal_of (Write i k x) e ≡ None → s ≡ get_or (map run_of ss) i idle → r ≡ wrote (record { key = k; value = x }) s →
+    refusal_of (Write i k x) e ≡ None → s ≡ get_or (map run_of ss) i idle → r ≡ added_in (record { key = k; value = x }) s →
     (map run_of ts ≡ set (map run_of ss) i r) × (v₁ ≡ v) × (w₁ ≡ w) × (m ≡ n) → Fits (on_write i (record { key = k; value = x }) e (slot_at i e)) v₁ w₁ ts m
 fits-write e v w ss n fit v₁ w₁ ts m i k x r s free p q puts =
     let new : Entry = record { key = k; value = x } in
@@ -182,12 +182,12 @@ fits-write e v w ss n fit v₁ w₁ ts m i k x r s free p q puts =
     let l : Life = g.0 in
     let here : slot_at i e ≡ Some l = g.1 in
     let run : r ≡ going (with_write new l.txn) =
-    q ∙ ap (wrote new) (p ∙ slot-bare e v w ss n fit i ∙ ap bare here) ∙ ap (λ (b : Bool). going (cond b (with_write new l.txn) l.txn)) g.2 in
+    q ∙ ap (added_in new) (p ∙ slot-bare e v w ss n fit i ∙ ap bare here) ∙ ap (λ (b : Bool). going (cond b (with_write new l.txn) l.txn)) g.2 in
     subst (λ (o : Option Life). Fits (on_write i new e o) v₁ w₁ ts m) (sym here)
     (fits_change e v w ss n fit v₁ w₁ ts m i r l (written_by new l) here run refl refl puts)
 
 pub fits_read : (e : Engine) (v : Versions) (w : Window) (ss : List Slot) (n : ℕ) → Fits e v w ss n → (v₁ : Versions) (w₁ : Window) (ts : List Slot) (m : ℕ) (i a b at : ℕ) (r : Run) (t : Txn) (l : Life) →
-    refusal_of (Read i a b) e ≡ None → slot_at i e ≡ Some l → t ≡ l.txn → at ≡ moment t n → r ≡ read a b at (going t) →
+    refusal_of (Read i a b) e ≡ None → slot_at i e ≡ Some l → t ≡ l.txn → at ≡ moment t n → r ≡ noted_in a b at (going t) →
     (map run_of ts ≡ set (map run_of ss) i r) × (v₁ ≡ v) × (w₁ ≡ w) × (m ≡ n) → Fits (on_read i a b e (slot_at i e)) v₁ w₁ ts m
 fits_read e v w ss n fit v₁ w₁ ts m i a b at r t l free here same q p puts =
     let g = read_goes e i a b free in
@@ -195,7 +195,7 @@ fits_read e v w ss n fit v₁ w₁ ts m i a b at r t l free here same q p puts =
     let few : ltb (length l.txn.reads) 64 ≡ true = subst (λ (x : Life). ltb (length x.txn.reads) 64 ≡ true) k g.2 in
     let now : at ≡ moment l.txn (count e) = q ∙ ap (λ (x : Txn). moment x n) same ∙ ap (moment l.txn) fit.number in
     let run : r ≡ going (read_by a b e l).txn =
-    p ∙ ap (λ (x : Txn). read a b at (going x)) same ∙ ap (λ (q : Bool). going (cond q (with_read a b at l.txn) l.txn)) few
+    p ∙ ap (λ (x : Txn). noted_in a b at (going x)) same ∙ ap (λ (q : Bool). going (cond q (with_read a b at l.txn) l.txn)) few
     ∙ ap (λ (x : ℕ). going (with_read a b x l.txn)) now in
     subst (λ (o : Option Life). Fits (on_read i a b e o) v₁ w₁ ts m) (sym here)
     (fits_change e v w ss n fit v₁ w₁ ts m i r l (read_by a b e l) here run refl refl puts)

@@ -11,7 +11,7 @@ use Rattle.history.specs.Engine.{out_of_bounds, refusal_of, refused, Event, led}
 use Rattle.journal.specs.declared.gather.Journal.{Journal}
 use Rattle.store.specs.declared.state.Tables.{Tables}
 use Rattle.store.specs.declared.store.Store.{Store}
-use Rattle.store.specs.Calls.{Is, reply_of, Does}
+use Rattle.store.specs.Calls.{Is, reply_of, DoesRecording}
 use Rattle.store.specs.Stages.{is_ready}
 
 abbrev pub ready_of : Store → Bool
@@ -48,13 +48,13 @@ unready_refusal Unknown = BadLine
 abbrev pub Faulted : Call → Tables → Answer → Type 0
 Faulted c s a = (h : List Event) → Is (led h) s → reply_of a ≡ refused (fault_refusal (refusal_of c (led h)))
 
-abbrev pub AnswersReady : Request → Tables → Journal → Tables → Journal → Answer → Type 0
-AnswersReady (Whole c) s i t j a = Does c s i t j a
-AnswersReady (Faulty c) s i t j a = (t ≡ s) × (j ≡ i) × Faulted c s a
-AnswersReady (Slotless c) s i t j a = (t ≡ s) × (j ≡ i) × (reply_of a ≡ refused (slotless_refusal c))
-AnswersReady Unknown s i t j a = (t ≡ s) × (j ≡ i) × (reply_of a ≡ refused BadLine)
+abbrev pub AnswersReadyRecording : Request → Tables → Journal → Tables → Journal → Answer → Type 0
+AnswersReadyRecording (Whole c) s i t j a = DoesRecording c s i t j a
+AnswersReadyRecording (Faulty c) s i t j a = (t ≡ s) × (j ≡ i) × Faulted c s a
+AnswersReadyRecording (Slotless c) s i t j a = (t ≡ s) × (j ≡ i) × (reply_of a ≡ refused (slotless_refusal c))
+AnswersReadyRecording Unknown s i t j a = (t ≡ s) × (j ≡ i) × (reply_of a ≡ refused BadLine)
 
-pub record AnswersTo (q : Request) (s : Store) (i : Journal) (t : Store) (j : Journal) (a : Answer) : Type 0 where
+pub record AnswersToRecording (q : Request) (s : Store) (i : Journal) (t : Store) (j : Journal) (a : Answer) : Type 0 where
   pub stage : t.stage ≡ s.stage
-  pub engine : ready_of s ≡ true → AnswersReady q s.tables.now i t.tables.now j a
+  pub engine : ready_of s ≡ true → AnswersReadyRecording q s.tables.now i t.tables.now j a
   pub none : ready_of s ≡ false → (t.tables.now ≡ s.tables.now) × (j ≡ i) × (reply_of a ≡ refused (unready_refusal q))

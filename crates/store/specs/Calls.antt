@@ -88,25 +88,25 @@ lack_in room (Some l) = is_serial l.txn.level || nat_lt room 390
 
 -- where memory may be wanted: for what a read finds, for what is kept of a Serial that commits, and for a record where
 -- the journal has no room for the largest
-abbrev pub may_lack : Call → Engine → ℕ → Bool
-may_lack (Begin s l) e room = false
-may_lack (Read s a b) e room = true
-may_lack (Write s k v) e room = false
-may_lack (Commit s) e room = lack_in room (slot_at s e)
-may_lack (Abort s) e room = false
-may_lack Sweep e room = false
-may_lack Sync e room = false
-may_lack Stop e room = false
-may_lack Show e room = false
+abbrev pub may_lack_room : Call → Engine → ℕ → Bool
+may_lack_room (Begin s l) e room = false
+may_lack_room (Read s a b) e room = true
+may_lack_room (Write s k v) e room = false
+may_lack_room (Commit s) e room = lack_in room (slot_at s e)
+may_lack_room (Abort s) e room = false
+may_lack_room Sweep e room = false
+may_lack_room Sync e room = false
+may_lack_room Stop e room = false
+may_lack_room Show e room = false
 
 -- the call is answered by the rules; or it is not refused by them and memory is wanted, and all is as before
-abbrev pub Answers : Call → Engine → Engine → Reply → Journal → Tables → Journal → Answer → Type 0
-Answers c e f r i t j a =
+abbrev pub AnswersRecording : Call → Engine → Engine → Reply → Journal → Tables → Journal → Answer → Type 0
+AnswersRecording c e f r i t j a =
     (Is f t × (reply_of a ≡ r) × Recorded e f i j)
-    ⊎ ((refusal_of c e ≡ None) × (may_lack c e (room_of i) ≡ true) × Is e t × (reply_of a ≡ refused NoMemory) × (j ≡ i))
+    ⊎ ((refusal_of c e ≡ None) × (may_lack_room c e (room_of i) ≡ true) × Is e t × (reply_of a ≡ refused NoMemory) × (j ≡ i))
 
-abbrev pub PerformsOr : Call → Tables → Journal → Tables → Journal → Answer → Type 0
-PerformsOr c s i t j a = (e : Engine) → Sound e → Is e s → refusal_of c e ≡ None → Answers c e (performed c e) (replied c e) i t j a
+abbrev pub PerformsRecording : Call → Tables → Journal → Tables → Journal → Answer → Type 0
+PerformsRecording c s i t j a = (e : Engine) → Sound e → Is e s → refusal_of c e ≡ None → AnswersRecording c e (performed c e) (replied c e) i t j a
 
 abbrev pub Counted : Tables → Counts → Type 0
 Counted s r = (e : Engine) → Is e s → shown r.commits r.versions r.busy ≡ replied Show e
@@ -126,7 +126,7 @@ Looks q a b s (Err y) = (t : Txn) → q ≡ going t → y ≡ NoMemory
 -- a commit of the transaction that runs in the slot
 abbrev pub CommitsBy : ℕ → Txn → Tables → Journal → Tables → Journal → Answer → Type 0
 CommitsBy k t s i u j r = (e : Engine) (l : Life) → Sound e → Is e s → slot_at k e ≡ Some l → t ≡ l.txn → refusal_of (Commit k) e ≡ None →
-    Answers (Commit k) e (performed (Commit k) e) (replied (Commit k) e) i u j r
+    AnswersRecording (Commit k) e (performed (Commit k) e) (replied (Commit k) e) i u j r
 
 -- the commit is among the others and its record in the journal, and its slot is still busy; or memory is wanted
 abbrev pub entered : Engine → Life → Engine
@@ -138,8 +138,8 @@ Enters t s i u j (Err y) = (e : Engine) (k : ℕ) (l : Life) → Sound e → Is 
     (lack_in (room_of i) (Some l) ≡ true) × Is e u × (y ≡ NoMemory) × (j ≡ i)
 
 -- whatever events led to the tables, they are where they and the call lead, and the answer is the one that the rules give
-abbrev pub Does : Call → Tables → Journal → Tables → Journal → Answer → Type 0
-Does c s i t j a = (h : List Event) → Is (led h) s → Answers c (led h) (led (h ++ (Called c ∷ []))) (reply_to c (led h)) i t j a
+abbrev pub DoesRecording : Call → Tables → Journal → Tables → Journal → Answer → Type 0
+DoesRecording c s i t j a = (h : List Event) → Is (led h) s → AnswersRecording c (led h) (led (h ++ (Called c ∷ []))) (reply_to c (led h)) i t j a
 
 -- some events, from an empty engine on, led to the tables
 abbrev pub Led : Tables → Type 0

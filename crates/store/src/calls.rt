@@ -1,6 +1,6 @@
 // What each call does.
 ghost use Rattle.std.specs.Prelude.{◌≡◌, ◌<◌, true, not, map, IfOk, ◌==◌, nat_le, slice_index_or};
-ghost use Rattle.transactions.specs.Slots.{idle, run_of, read, wrote, begin_refused, read_refused, write_refused, end_refused};
+ghost use Rattle.transactions.specs.Slots.{idle, run_of, noted_in, added_in, begin_refused, read_refused, write_refused, end_refused};
 ghost use Rattle.transactions.specs.Transactions.{model_of};
 ghost use Rattle.model.specs.declared.Call.TheVariants.{Begin, Read, Write, Commit, Abort, Sweep, Stop};
 ghost use Rattle.model.specs.declared.Refusal.TheVariants.{NoRoom, LastCommit};
@@ -8,7 +8,7 @@ ghost use Rattle.versions.specs.Store.{spaces};
 ghost use Rattle.journal.specs.declared.gather.Journal.{Journal};
 ghost use Rattle.history.specs.Engine.{fresh, out_of_bounds, when, first_of};
 ghost use Rattle.store.specs.Fits.{counts, lower_run, floor_of, busy_run, busy_of};
-ghost use Rattle.store.specs.Calls.{Is, Refuses, SlotRefuses, Judges, Puts, Keeps, Performs, PerformsOr, Counted, Finds, StandsAt, Looks, CommitsBy, Enters};
+ghost use Rattle.store.specs.Calls.{Is, Refuses, SlotRefuses, Judges, Puts, Keeps, Performs, PerformsRecording, Counted, Finds, StandsAt, Looks, CommitsBy, Enters};
 
 use crate::state::Tables;
 use conflicts::Window;
@@ -259,7 +259,7 @@ impl Tables<'_, '_> {
         ensures { Puts slot idle self.old self.new }
     {
         if slot < SLOTS {
-            self.slots[slot as usize] = self.slots[slot as usize].ended();
+            self.slots[slot as usize] = self.slots[slot as usize].freed();
         }
     }
 
@@ -280,10 +280,10 @@ impl Tables<'_, '_> {
 
     // Adds the write.
     fn add(&mut self, slot: u32, entry: Entry)
-        ensures { Puts slot (wrote entry (slice_index_or (map run_of self.old.slots) slot idle)) self.old self.new }
+        ensures { Puts slot (added_in entry (slice_index_or (map run_of self.old.slots) slot idle)) self.old self.new }
     {
         if slot < SLOTS {
-            self.slots[slot as usize] = self.slots[slot as usize].written(entry);
+            self.slots[slot as usize] = self.slots[slot as usize].added(entry);
         }
     }
 
@@ -381,7 +381,7 @@ impl Tables<'_, '_> {
     }
 
     fn read(&mut self, slot: u32, from: u32, to: u32) -> Answer
-        ensures { (j : Journal) → PerformsOr (Read slot from to) self.old j self.new j result }
+        ensures { (j : Journal) → PerformsRecording (Read slot from to) self.old j self.new j result }
     {
         match self.look(slot, from, to) {
             Err(refusal) => Answer::Refused(refusal),
@@ -394,15 +394,15 @@ impl Tables<'_, '_> {
 
     // Notes the read.
     fn note(&mut self, slot: u32, from: u32, to: u32, at: u32)
-        ensures { Puts slot (read from to at (slice_index_or (map run_of self.old.slots) slot idle)) self.old self.new }
+        ensures { Puts slot (noted_in from to at (slice_index_or (map run_of self.old.slots) slot idle)) self.old self.new }
     {
         if slot < SLOTS {
-            self.slots[slot as usize] = self.slots[slot as usize].read(from, to, at);
+            self.slots[slot as usize] = self.slots[slot as usize].noted(from, to, at);
         }
     }
 
     fn commit(&mut self, slot: u32, journal: &mut Journal) -> Answer
-        ensures { PerformsOr (Commit slot) self.old journal.old self.new journal.new result }
+        ensures { PerformsRecording (Commit slot) self.old journal.old self.new journal.new result }
     {
         match self.slot(slot) {
             Slot::Idle => Answer::Refused(Refusal::SlotState),
@@ -452,8 +452,8 @@ impl Tables<'_, '_> {
     }
 
     // Does a call that is not refused.
-    pub fn perform(&mut self, call: Call, journal: &mut Journal) -> Answer
-        ensures { PerformsOr call self.old journal.old self.new journal.new result }
+    pub fn perform_recording(&mut self, call: Call, journal: &mut Journal) -> Answer
+        ensures { PerformsRecording call self.old journal.old self.new journal.new result }
     {
         match call {
             Call::Begin { slot, level } => {

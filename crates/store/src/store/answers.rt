@@ -4,8 +4,8 @@ ghost use Rattle.transactions.specs.Slots.{idle, run_of};
 ghost use Rattle.versions.specs.Store.{spaces};
 ghost use Rattle.history.specs.Engine.{fresh, Event, led};
 ghost use Rattle.history.specs.Promise.{Promised};
-ghost use Rattle.store.specs.Calls.{Is, Does, reply_of};
-ghost use Rattle.store.specs.Answers.{ready_of, is_stop, slotless_refusal, unready_refusal, Faulted, AnswersTo};
+ghost use Rattle.store.specs.Calls.{Is, DoesRecording, reply_of};
+ghost use Rattle.store.specs.Answers.{ready_of, is_stop, slotless_refusal, unready_refusal, Faulted, AnswersToRecording};
 
 use super::Store;
 use crate::calls::is_out_of_bounds;
@@ -53,11 +53,11 @@ fn unready(request: Request) -> Refusal
 
 // One call of an engine.
 fn call_of(tables: &mut Tables, call: Call, journal: &mut Journal) -> Answer
-    ensures { Does call tables.old journal.old tables.new journal.new result }
+    ensures { DoesRecording call tables.old journal.old tables.new journal.new result }
 {
     match tables.refusal(call) {
         Some(refusal) => Answer::Refused(refusal),
-        None => tables.perform(call, journal),
+        None => tables.perform_recording(call, journal),
     }
 }
 
@@ -94,8 +94,8 @@ impl Store<'_, '_, '_> {
     }
 
     // The answer to one request. The record of a commit goes to the journal.
-    pub fn answer(&mut self, request: Request, journal: &mut Journal) -> Answer
-        ensures answers { AnswersTo request self.old journal.old self.new journal.new result }
+    pub fn answer_recording(&mut self, request: Request, journal: &mut Journal) -> Answer
+        ensures answers { AnswersToRecording request self.old journal.old self.new journal.new result }
         ensures promises { (h : List Event) → Is (led h) self.new.tables.now → Promised h }
     {
         if !self.stage.is_ready() {

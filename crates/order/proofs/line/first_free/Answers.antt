@@ -3,12 +3,12 @@ use Rattle.order.specs.Past.{past_of}
 use Rattle.order.proofs.Taking.{free_at, free_none}
 use Rattle.order.proofs.line.first_free.Goals as goal
 
-pub returns-then-is-free : goal.returns-then-is-free
-returns-then-is-free c =
+pub returns-then-is_free : goal.returns-then-is_free
+returns-then-is_free c =
     let long = c.loop-i.invariant.0.0 in
     record {
-      compared = c.is-free.ensures.compared;
-      told = free_at (map past_of c.args.pasts.now) c.args.gone.now c.loop-i.i (omega (arith, long)) c.if-is-free.ensures.told c.loop-i.invariant.1;
+      compared = c.is_free.ensures.compared;
+      told = free_at (map past_of c.args.pasts.now) c.args.gone.now c.loop-i.i (omega (arith, long)) c.if-is_free.ensures.told c.loop-i.invariant.1;
       within = c.loop-i-test.true;
     }
 

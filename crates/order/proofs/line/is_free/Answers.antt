@@ -8,6 +8,6 @@ returns c =
     let ps = c.args.pasts.now in
     let gone = c.args.gone.now in
     record {
-      compared = compared_more ps gone c.args.cursors.now c.args.i c.next-before-next.result c.requires.within c.requires.compared c.next-before-next.ensures.below;
-      told = free_told (map past_of ps) gone c.args.i c.next-before-next.result _ c.requires.within c.requires.compared.0 c.if-gone-i.false c.next-before-next.ensures.below c.next-before-next.ensures.here;
+      compared = compared_more ps gone c.args.cursors.now c.args.i c.next_before-next.result c.requires.within c.requires.compared c.next_before-next.ensures.below;
+      told = free_told (map past_of ps) gone c.args.i c.next_before-next.result _ c.requires.within c.requires.compared.0 c.if-gone-i.false c.next_before-next.ensures.below c.next_before-next.ensures.here;
     }

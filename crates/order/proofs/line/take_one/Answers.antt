@@ -9,17 +9,17 @@ returns-in-Some c =
     let ps = c.args.pasts.now in
     let gone = c.args.gone.now in
     let i = c.in-Some.i in
-    let compared = c.first-free.ensures.compared in
+    let compared = c.first_free.ensures.compared in
     let l : i < length gone = omega (arith, compared.0, c.in-Some.ensures.within) in
     record {
-      compared = compared_taken gone i l ps c.first-free.new.cursors compared;
+      compared = compared_taken gone i l ps c.first_free.new.cursors compared;
       room = search rules;
-      taken = taken-one (map past_of ps) (left_of gone) (vec_items c.args.order.now) i _ _ c.in-Some.ensures.told (left-taken gone i l) c.push-reserved.ensures.items;
+      taken = taken-one (map past_of ps) (left_of gone) (vec_items c.args.order.now) i _ _ c.in-Some.ensures.told (left-taken gone i l) c.push_reserved.ensures.items;
     }
 
 pub returns-in-None : goal.returns-in-None
 returns-in-None c = record {
-  compared = c.first-free.ensures.compared;
+  compared = c.first_free.ensures.compared;
   room = search rules;
   taken = taken_stuck (map past_of c.args.pasts.now) (left_of c.args.gone.now) (vec_items c.args.order.now) c.in-None.ensures.told;
 }

@@ -1,11 +1,11 @@
 use Rattle.std.proofs.Common.{refl, arith}
-use Rattle.transactions.specs.Slots.{wrote}
+use Rattle.transactions.specs.Slots.{added_in}
 use Rattle.store.proofs.Runs.{changed}
 use Rattle.store.proofs.Steps.{put-out}
 use Rattle.store.proofs.state.Tables.add.Goals as goal
 
 pub returns-then-slot-lt-SLOTS : goal.returns-then-slot-lt-SLOTS
-returns-then-slot-lt-SLOTS c = (changed (wrote c.args.entry) c.args.self.now.slots c.args.slot _ c.written.result (omega (arith, c.args.self.now.all)) c.written.ensures, refl, refl, refl)
+returns-then-slot-lt-SLOTS c = (changed (added_in c.args.entry) c.args.self.now.slots c.args.slot _ c.added.result (omega (arith, c.args.self.now.all)) c.added.ensures, refl, refl, refl)
 
 pub returns-else-slot-lt-SLOTS : goal.returns-else-slot-lt-SLOTS
 returns-else-slot-lt-SLOTS c = (put-out c.args.self.now.slots c.args.slot _ (omega (arith, c.args.self.now.all, c.if-slot-lt-SLOTS.false)), refl, refl, refl)

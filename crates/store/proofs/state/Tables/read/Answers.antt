@@ -1,7 +1,7 @@
 use Rattle.std.proofs.Common.{◌≡◌, ℕ, ◌≤◌, map, get_or, vec_items, sym, refl, ap, ◌∙◌, subst, inl, inr}
 use Rattle.model.specs.declared.Call.TheVariants.{Read}
 use Rattle.model.specs.Transactions.{moment}
-use Rattle.transactions.specs.Slots.{idle, going, run_of, read}
+use Rattle.transactions.specs.Slots.{idle, going, run_of, noted_in}
 use Rattle.history.specs.Engine.{count, refused}
 use Rattle.store.specs.Fits.{bare}
 use Rattle.store.proofs.Finding.{floor-at, end_within}
@@ -27,7 +27,7 @@ returns-in-Ok c = λ j e snd fit free.
     let looks = c.in-Ok.ensures l.txn run in
     let low : e.floor ≤ at = subst (λ (k : ℕ). e.floor ≤ k) (sym (ap (moment l.txn) fit.number) ∙ sym looks.0) (floor-at e snd i l g.1) in
     inl (
-      fits_read e _ _ _ _ fit _ _ _ _ i a b at _ l.txn l free g.1 refl looks.0 (ap (read a b at) run) c.note.ensures,
+      fits_read e _ _ _ _ fit _ _ _ _ i a b at _ l.txn l free g.1 refl looks.0 (ap (noted_in a b at) run) c.note.ensures,
       read_told e i a b at _ l.txn l (vec_items c.in-Ok.seen.entries) g.1 refl looks.0 fit.number (looks.1 e fit low (end_within e i a b free)),
       nothing_new e _ j (performed-same (Read i a b) e (no_commit _ refl)),
     )

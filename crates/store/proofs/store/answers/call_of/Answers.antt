@@ -5,4 +5,4 @@ pub returns-in-Some : goal.returns-in-Some
 returns-in-Some c = call_refused c.args.call c.args.tables.now c.args.journal.now c.in-Some.refusal c.in-Some.ensures
 
 pub returns-in-None : goal.returns-in-None
-returns-in-None c = call_done c.args.call c.args.tables.now c.perform.new.self c.args.journal.now c.perform.new.journal c.perform.result c.in-None.ensures c.perform.ensures
+returns-in-None c = call_done c.args.call c.args.tables.now c.perform_recording.new.self c.args.journal.now c.perform_recording.new.journal c.perform_recording.result c.in-None.ensures c.perform_recording.ensures

@@ -3,7 +3,7 @@ use Rattle.history.specs.Engine.{refused}
 use Rattle.history.proofs.Promising.{promises}
 use Rattle.store.proofs.Answering.{still_led, answers-none, answers-engine}
 use Rattle.store.proofs.Staging.{ready-not_loading}
-use Rattle.store.proofs.store.Store.answer.Goals as goal
+use Rattle.store.proofs.store.Store.answer_recording.Goals as goal
 
 pub invariant-of-self : goal.invariant-of-self
 invariant-of-self c = (λ p. still_led c.in-Whole.call c.args.self.now.tables.now c.call-of.new.tables c.args.journal.now c.call-of.new.journal c.call-of.result c.call-of.ensures (c.args.self.now.led p), (λ p. absurd (ready-not_loading c.args.self.now.stage (sym c.is-ready.ensures ∙ c.if-not-is-ready.false) p), tt))

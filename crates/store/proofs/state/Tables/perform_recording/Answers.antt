@@ -3,7 +3,7 @@ use Rattle.model.specs.declared.Answer.TheVariants.{Done, Shown}
 use Rattle.model.specs.declared.Call.TheVariants.{Begin, Write, Abort, Sweep, Sync, Stop, Show}
 use Rattle.store.proofs.Recording.{done-by, no_commit}
 use Rattle.store.proofs.Steps.{fits-sync}
-use Rattle.store.proofs.state.Tables.perform.Goals as goal
+use Rattle.store.proofs.state.Tables.perform_recording.Goals as goal
 
 pub returns-in-Begin : goal.returns-in-Begin
 returns-in-Begin c = done-by c.args.call (Begin c.in-Begin.slot c.in-Begin.level) c.args.self.now c.begin.new.self c.args.journal.now Done c.in-Begin.is (no_commit _ refl) (λ e fit. refl) c.begin.ensures
