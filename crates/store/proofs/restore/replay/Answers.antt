@@ -49,8 +49,8 @@ returns-then-number c =
       inside = c.loop-size.invariant.0;
     }
 
-pub overflow-add-at : goal.overflow-add-at
-overflow-add-at c = let h = fits_on (goal.at.overflow-add-at c).In-Whole in omega (arith, h.0, h.1)
+pub overflow_add-at : goal.overflow_add-at
+overflow_add-at c = let h = fits_on (goal.at.overflow_add-at c).In-Whole in omega (arith, h.0, h.1)
 
 pub loop-size-smaller : goal.loop-size-smaller
 loop-size-smaller c = let h = fits_on (goal.at.loop-size-smaller c).In-Whole in omega (arith, h.0, h.1)
@@ -77,7 +77,7 @@ returns c =
     let next = c.loop-size.tables.commits in
     let rest = drop at c.args.bytes.now in
     let e : c.decode-answer.result ≡ outlined (parsed next rest) = c.decode-answer.ensures.answer ∙ ap (λ l. outlined (parsed next l)) (take_rest c.args.bytes.now at) in
-    let s = outline_short (parsed next rest) (λ k n f. c.in-default.not-Whole k n (e ∙ f)) (λ why f. c.in-default-answer.not-Bad why (e ∙ f)) in
+    let s = outline_short (parsed next rest) (λ k n f. c.in_default.not-Whole k n (e ∙ f)) (λ why f. c.in_default-answer.not-Bad why (e ∙ f)) in
     record {
       commits = λ ws fill. going_end ws c.args.bytes.now at c.loop-size.tables (c.loop-size.invariant.1 ws fill) s;
       inside = c.loop-size.invariant.0;

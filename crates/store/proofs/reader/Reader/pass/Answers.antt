@@ -6,8 +6,8 @@ pub returns : goal.returns
 returns c =
     let left = c.args.self.now.left in
     let n = c.args.n in (
-      passed-left (vec_items left) (vec_items c.copy-within.new.self) (vec_items c.truncate.new.self) n (vec_len left - n) (c.len.result - n)
-          (ap (λ (l : ℕ). l - n) left.ok.0) (ap (λ (l : ℕ). l - n) (c.len.ensures ∙ left.ok.0)) c.copy-within.ensures.items c.truncate.ensures.items,
-      c.saturating-add-self.ensures,
+      passed-left (vec_items left) (vec_items c.copy_within.new.self) (vec_items c.truncate.new.self) n (vec_len left - n) (c.len.result - n)
+          (ap (λ (l : ℕ). l - n) left.ok.0) (ap (λ (l : ℕ). l - n) (c.len.ensures ∙ left.ok.0)) c.copy_within.ensures.items c.truncate.ensures.items,
+      c.saturating_add-self.ensures,
       refl,
     )

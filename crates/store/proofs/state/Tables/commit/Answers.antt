@@ -12,4 +12,4 @@ returns-in-Idle c = λ e snd fit free.
 pub returns-in-Active : goal.returns-in-Active
 returns-in-Active c = λ e snd fit free.
     let x = going-told e _ _ _ _ fit c.args.slot (model_of c.in-Active.t) c.in-Active.ensures in
-    c.commit-by.ensures e x.0 snd fit x.1 x.2 free
+    c.commit_by.ensures e x.0 snd fit x.1 x.2 free

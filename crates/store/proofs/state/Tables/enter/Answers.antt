@@ -9,15 +9,15 @@ use Rattle.store.proofs.Judging.{never_full, never_last, then}
 use Rattle.store.proofs.Steps.{fits-entered, fits-window, never_refused}
 use Rattle.store.proofs.state.Tables.enter.Goals as goal
 
-pub returns-then-not-room-for : goal.returns-then-not-room-for
-returns-then-not-room-for c = λ e i l snd fit here same free.
-    absurd (never_full e snd _ _ _ _ fit i l here c.own-writes.result.now (then c.own-writes.ensures (ap (λ (t : Txn). t.writes) same)) c.room-for.result c.room-for.ensures.history c.if-not-room-for.true free)
+pub returns-then-not-room_for : goal.returns-then-not-room_for
+returns-then-not-room_for c = λ e i l snd fit here same free.
+    absurd (never_full e snd _ _ _ _ fit i l here c.own_writes.result.now (then c.own_writes.ensures (ap (λ (t : Txn). t.writes) same)) c.room_for.result c.room_for.ensures.history c.if-not-room_for.true free)
 
 pub returns-then-number : goal.returns-then-number
 returns-then-number c = λ e i l snd fit here same free. absurd (never_last e _ _ _ _ fit l c.if-number.true free)
 
-pub returns-then-not-has-room : goal.returns-then-not-has-room
-returns-then-not-has-room c = λ e i l snd fit here same free. (lack_room (room_of c.args.journal.now) l (then (sym c.has-room.ensures.room) c.if-not-has-room.true), fit, refl, refl)
+pub returns-then-not-has_room : goal.returns-then-not-has_room
+returns-then-not-has_room c = λ e i l snd fit here same free. (lack_room (room_of c.args.journal.now) l (then (sym c.has_room.ensures.room) c.if-not-has_room.true), fit, refl, refl)
 
 pub returns-in-Err : goal.returns-in-Err
 returns-in-Err c = λ e i l snd fit here same free.
@@ -27,21 +27,21 @@ returns-in-Err c = λ e i l snd fit here same free.
 pub returns-then-not-append : goal.returns-then-not-append
 returns-then-not-append c = λ e i l snd fit here same free.
     absurd
-    (never_short e snd i l here c.own-writes-2.result.now (then c.own-writes-2.ensures (ap (λ (t : Txn). t.writes) same)) c.args.journal.now c.append.new.self c.args.self.now.commits c.append.result c.append.ensures.bytes
-    (then (sym c.has-room.ensures.room) c.if-not-has-room.false) c.if-not-append.true)
+    (never_short e snd i l here c.own_writes-2.result.now (then c.own_writes-2.ensures (ap (λ (t : Txn). t.writes) same)) c.args.journal.now c.append.new.self c.args.self.now.commits c.append.result c.append.ensures.bytes
+    (then (sym c.has_room.ensures.room) c.if-not-has_room.false) c.if-not-append.true)
 
 pub returns-in-Err-commit : goal.returns-in-Err-commit
 returns-in-Err-commit c = λ e i l snd fit here same free.
     let v = c.args.self.now.versions.now in
-    let again : c.own-writes-3.result.now ≡ c.own-writes.result.now = then c.own-writes-3.ensures (sym c.own-writes.ensures) in
+    let again : c.own_writes-3.result.now ≡ c.own_writes.result.now = then c.own_writes-3.ensures (sym c.own_writes.ensures) in
     absurd
-    (never_refused v c.own-writes-3.result.now (model_of c.args.t.now) l c.in-Err-commit.refusal c.own-writes-3.ensures same (snd.under i l here).keys
-    (ap (room_for v) again ∙ sym c.room-for.ensures.value ∙ c.if-not-room-for.false) c.in-Err-commit.ensures.done.0)
+    (never_refused v c.own_writes-3.result.now (model_of c.args.t.now) l c.in-Err-commit.refusal c.own_writes-3.ensures same (snd.under i l here).keys
+    (ap (room_for v) again ∙ sym c.room_for.ensures.value ∙ c.if-not-room_for.false) c.in-Err-commit.ensures.done.0)
 
 pub returns : goal.returns
 returns c = λ e i l snd fit here same. (
-  fits-entered e snd _ _ _ _ fit i l here (model_of c.args.t.now) same c.own-writes-3.result.now c.own-writes-3.ensures c.commit.new.self c.take-in.new.self
-      c.in-default-commit.ensures.history c.in-default-commit.ensures.done.3 c.in-default.ensures.rules,
-  one-new e l _ _ c.args.self.now.commits c.own-writes-2.result.now fit.number (then c.own-writes-2.ensures (ap (λ (t : Txn). t.writes) same)) c.append.result
+  fits-entered e snd _ _ _ _ fit i l here (model_of c.args.t.now) same c.own_writes-3.result.now c.own_writes-3.ensures c.commit.new.self c.take_in.new.self
+      c.in_default-commit.ensures.history c.in_default-commit.ensures.done.3 c.in_default.ensures.rules,
+  one-new e l _ _ c.args.self.now.commits c.own_writes-2.result.now fit.number (then c.own_writes-2.ensures (ap (λ (t : Txn). t.writes) same)) c.append.result
       c.if-not-append.false c.append.ensures.bytes (c.append.ensures.fine c.if-not-append.false),
 )

@@ -5,7 +5,7 @@ use Rattle.history.specs.Engine.{Engine, txns}
 use Rattle.store.proofs.Finding.{one_found, none_found, all_found}
 use Rattle.store.proofs.Judging.{then}
 use Rattle.store.proofs.state.Tables.found.Goals as goal
-use Rattle.store.proofs.state.Tables.found.Goals.{then-value-gt0+in-ok-push, else-value-gt0}
+use Rattle.store.proofs.state.Tables.found.Goals.{then-value-gt0+in_ok-push, else-value-gt0}
 
 pub loop-key-preserved : goal.loop-key-preserved
 loop-key-preserved c = λ e fit low up.
@@ -15,9 +15,9 @@ loop-key-preserved c = λ e fit low up.
     let old = vec_items c.loop-key.entries in
     let so = c.loop-key.invariant e fit low up in
     elim c.if-value-gt0.branch [
-      | then-value-gt0+in-ok-push w ↦
+      | then-value-gt0+in_ok-push w ↦
           one_found m old _ _ c.loop-key.key c.args.to c.stands-value.result c.loop-key-test.true stands w.if-value-gt0.true
-          (then (ap vec_items w.entries-is) w.in-ok-push.ensures.items) so
+          (then (ap vec_items w.entries-is) w.in_ok-push.ensures.items) so
       | else-value-gt0 w ↦
           none_found m old _ _ c.loop-key.key c.args.to c.stands-value.result c.loop-key-test.true stands w.if-value-gt0.false (ap vec_items w.entries-is) so
     ]

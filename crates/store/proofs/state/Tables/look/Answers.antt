@@ -11,8 +11,8 @@ pub returns-in-Some : goal.returns-in-Some
 returns-in-Some c =
     let ss = c.args.self.now.slots in
     let at = c.in-Some.ensures.lookup in
-    subst (λ (q : Run). Looks q c.args.from c.args.to c.args.self.now c.look-in.result)
-    (ap run_of at.1 ∙ sym (get_or-map run_of ss c.args.slot _ idle (ltb-true _ _ (sym at.0)))) c.look-in.ensures
+    subst (λ (q : Run). Looks q c.args.from c.args.to c.args.self.now c.look_in.result)
+    (ap run_of at.1 ∙ sym (get_or-map run_of ss c.args.slot _ idle (ltb-true _ _ (sym at.0)))) c.look_in.ensures
 
 pub returns-in-None : goal.returns-in-None
 returns-in-None c = λ t p.

@@ -2,8 +2,8 @@ use Rattle.std.proofs.Common.{sym, ◌∙◌}
 use Rattle.store.proofs.Restoring.{loaded_swept, room-swept}
 use Rattle.store.proofs.state.Tables.make_room.Goals as goal
 
-pub returns-then-room-for : goal.returns-then-room-for
-returns-then-room-for c = λ ws so few. (so, sym c.room-for.ensures.value ∙ c.if-room-for.true)
+pub returns-then-room_for : goal.returns-then-room_for
+returns-then-room_for c = λ ws so few. (so, sym c.room_for.ensures.value ∙ c.if-room_for.true)
 
 pub returns : goal.returns
 returns c = λ ws so few. (

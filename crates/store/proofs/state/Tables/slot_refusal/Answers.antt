@@ -6,13 +6,13 @@ use Rattle.store.proofs.Runs.{told, begin-bare, read-bare, write-bare, end_bare}
 use Rattle.store.proofs.state.Tables.slot_refusal.Goals as goal
 
 pub returns-in-Begin : goal.returns-in-Begin
-returns-in-Begin c = λ e snd fit. told begin_refused begin_refusal begin-bare e _ _ _ _ fit c.in-Begin.slot c.begin-refusal.result (run_of c.slot.result) c.args.call _ c.begin-refusal.ensures c.slot.ensures c.in-Begin.is refl
+returns-in-Begin c = λ e snd fit. told begin_refused begin_refusal begin-bare e _ _ _ _ fit c.in-Begin.slot c.begin_refusal.result (run_of c.slot.result) c.args.call _ c.begin_refusal.ensures c.slot.ensures c.in-Begin.is refl
 
 pub returns-in-Read : goal.returns-in-Read
-returns-in-Read c = λ e snd fit. told read_refused (busy_refusal (λ (l : Life). when (leb 64 (length l.txn.reads)) TooMany)) read-bare e _ _ _ _ fit c.in-Read.slot c.read-refusal.result (run_of c.slot-in-Read.result) c.args.call _ c.read-refusal.ensures c.slot-in-Read.ensures c.in-Read.is refl
+returns-in-Read c = λ e snd fit. told read_refused (busy_refusal (λ (l : Life). when (leb 64 (length l.txn.reads)) TooMany)) read-bare e _ _ _ _ fit c.in-Read.slot c.read_refusal.result (run_of c.slot-in-Read.result) c.args.call _ c.read_refusal.ensures c.slot-in-Read.ensures c.in-Read.is refl
 
 pub returns-in-Write : goal.returns-in-Write
-returns-in-Write c = λ e snd fit. told write_refused (busy_refusal (λ (l : Life). when (leb 64 (length l.txn.writes)) TooMany)) write-bare e _ _ _ _ fit c.in-Write.slot c.write-refusal.result (run_of c.slot-in-Write.result) c.args.call _ c.write-refusal.ensures c.slot-in-Write.ensures c.in-Write.is refl
+returns-in-Write c = λ e snd fit. told write_refused (busy_refusal (λ (l : Life). when (leb 64 (length l.txn.writes)) TooMany)) write-bare e _ _ _ _ fit c.in-Write.slot c.write_refusal.result (run_of c.slot-in-Write.result) c.args.call _ c.write_refusal.ensures c.slot-in-Write.ensures c.in-Write.is refl
 
 pub returns-in-Abort : goal.returns-in-Abort
-returns-in-Abort c = λ e snd fit. told end_refused (busy_refusal (λ l. None)) end_bare e _ _ _ _ fit c.in-Abort.slot c.abort-refusal.result (run_of c.slot-in-Abort.result) c.args.call _ c.abort-refusal.ensures c.slot-in-Abort.ensures c.in-Abort.is refl
+returns-in-Abort c = λ e snd fit. told end_refused (busy_refusal (λ l. None)) end_bare e _ _ _ _ fit c.in-Abort.slot c.abort_refusal.result (run_of c.slot-in-Abort.result) c.args.call _ c.abort_refusal.ensures c.slot-in-Abort.ensures c.in-Abort.is refl

@@ -5,8 +5,8 @@ use Rattle.store.proofs.state.Tables.verdict.Goals as goal
 
 pub returns : goal.returns
 returns c = λ e snd fit i l here at.
-    then c.first-of.ensures
+    then c.first_of.ensures
     (judged_of e snd c.args.self.now.versions.now c.args.self.now.window c.args.self.now.slots c.args.self.now.commits fit i l here
-    (model_of c.args.t.now) at c.own-writes.result.now c.own-writes-2.result.now c.own-writes.ensures c.own-writes-2.ensures
-    c.conflicts-conflict.result c.room-for-room.result c.verdict-judged.result
-    c.conflicts-conflict.ensures.history c.verdict-judged.ensures.rules c.room-for-room.ensures.history)
+    (model_of c.args.t.now) at c.own_writes.result.now c.own_writes-2.result.now c.own_writes.ensures c.own_writes-2.ensures
+    c.conflicts-conflict.result c.room_for-room.result c.verdict-judged.result
+    c.conflicts-conflict.ensures.history c.verdict-judged.ensures.rules c.room_for-room.ensures.history)

@@ -6,14 +6,14 @@ use Rattle.store.proofs.Loading.{reads_none}
 use Rattle.store.proofs.Restoring.{loaded_none}
 use Rattle.store.proofs.store.Store.load.Goals as goal
 
-pub invariant-of-self : goal.invariant-of-self
-invariant-of-self c = (
-  λ p. absurd (not-ready _ _ c.if-room-self.ensures p),
-  (λ p. ∣ ([], loaded_none _ _ _ _ (c.reset-room.ensures.fresh (loading_room _ _ c.if-room-self.ensures p))) ∣₁, tt),
-)
+pub invariant_of-self : goal.invariant_of-self
+invariant_of-self c = record {
+  led = λ p. absurd (not-ready _ _ c.if_room-self.ensures p);
+  filled = λ p. ∣ ([], loaded_none _ _ _ _ (c.reset-room.ensures.fresh (loading_room _ _ c.if_room-self.ensures p))) ∣₁;
+}
 
 pub returns : goal.returns
 returns c = (
-  c.if-room-self.ensures ∙ ap (λ (b : Bool). cond b Loading Unreadable) c.reset-room.ensures.room,
-  λ r blank on. (on, reads_none r _ blank (loaded_none _ _ _ _ (c.reset-room.ensures.fresh (loading_room _ _ c.if-room-self.ensures (ap is_loading on))))),
+  c.if_room-self.ensures ∙ ap (λ (b : Bool). cond b Loading Unreadable) c.reset-room.ensures.room,
+  λ r blank on. (on, reads_none r _ blank (loaded_none _ _ _ _ (c.reset-room.ensures.fresh (loading_room _ _ c.if_room-self.ensures (ap is_loading on))))),
 )

@@ -4,15 +4,15 @@ use Rattle.store.specs.Stages.{is_ready}
 use Rattle.store.proofs.Staging.{ready-room, not-loading, ready_is}
 use Rattle.store.proofs.store.Store.over.Goals as goal
 
-pub invariant-of-result : goal.invariant-of-result
+pub invariant_of-result : goal.invariant_of-result
 unfolding run
-invariant-of-result c = (
-  λ p. ∣ ([], c.reset-room.ensures.fresh (ready-room _ _ c.if-room.ensures p)) ∣₁,
-  (λ p. absurd (not-loading _ _ c.if-room.ensures p), tt),
-)
+invariant_of-result c = record {
+  led = λ p. ∣ ([], c.reset-room.ensures.fresh (ready-room _ _ c.if_room.ensures p)) ∣₁;
+  filled = λ p. absurd (not-loading _ _ c.if_room.ensures p);
+}
 
 pub returns : goal.returns
 returns c = record {
-  ready = ap is_ready c.if-room.ensures ∙ ready_is c.reset-room.result ∙ c.reset-room.ensures.room;
-  fresh = λ p. c.reset-room.ensures.fresh (ready-room _ _ c.if-room.ensures p);
+  ready = ap is_ready c.if_room.ensures ∙ ready_is c.reset-room.result ∙ c.reset-room.ensures.room;
+  fresh = λ p. c.reset-room.ensures.fresh (ready-room _ _ c.if_room.ensures p);
 }
