@@ -10,6 +10,7 @@ mod writer;
 pub use files::survey;
 pub use gather::Journal;
 pub use laws::laws_stand;
+pub use layout::LARGEST_RECORD;
 pub use reader::{decode, front};
 pub use types::{Fault, Parsed, Survey};
 pub use writer::encode;

@@ -1,10 +1,9 @@
 -- What is kept of the commits, call by call.
-use Rattle.std.proofs.Common.{◌≡◌, ℕ, zero, suc, ◌<◌, true, false, ◌⊎◌, List, [], ◌∷◌, ◌++◌, map, length, Some, None, Ok, Err, vec_items, Option, Result, Vec, sym, refl, ap, ◌∙◌, subst, inl, inr, arith}
-use Rattle.std.proofs.lemmas.Bool.{or_left, or_right}
+use Rattle.std.proofs.Common.{◌≡◌, ℕ, zero, suc, ◌<◌, true, false, ◌⊎◌, List, [], ◌∷◌, ◌++◌, map, length, Some, Ok, Err, vec_items, Result, Vec, sym, refl, ap, ◌∙◌, subst, inl, inr, arith}
 use Rattle.std.proofs.lemmas.List.{map_push}
 use Rattle.model.specs.declared.Answer.{Answer}
 use Rattle.model.specs.declared.Call.{Call}
-use Rattle.model.specs.declared.Call.TheVariants.{Begin, Read, Write, Commit, Abort, Sweep, Sync, Stop, Show}
+use Rattle.model.specs.declared.Call.TheVariants.{Commit}
 use Rattle.model.specs.declared.Level.{Level}
 use Rattle.model.specs.declared.Level.TheVariants.{Serial}
 use Rattle.model.specs.declared.Refusal.{Refusal}
@@ -19,13 +18,11 @@ use Rattle.history.specs.Engine.{Life, Engine, txns, count, slot_at, refusal_of,
 use Rattle.history.specs.Promise.{SerialRun}
 use Rattle.history.proofs.Promising.{promises}
 use Rattle.store.specs.declared.store.Store.{Store}
-use Rattle.store.specs.Calls.{Is, reply_of, may_lack, lack_in, Answers}
-use Rattle.store.specs.Answers.{ready_of, fault_refusal}
-use Rattle.store.specs.Stages.{is_ready}
-use Rattle.journal.specs.Held.{room_of}
+use Rattle.store.specs.Calls.{Is, reply_of, may_lack, serial_in, Answers}
+use Rattle.store.specs.Answers.{ready_of, fault_refusal, AnswersTo}
 use Rattle.serial_runs.specs.declared.runs.Runs.{Runs}
 use Rattle.serial_runs.specs.Requests.{begins_other}
-use Rattle.serial_runs.specs.Standing.{commits, bad_line, OnlySerial, Stands, Asked, CallDone, InLine}
+use Rattle.serial_runs.specs.Standing.{commits, bad_line, OnlySerial, Stands, CallDone, InLine}
 use Rattle.serial_runs.proofs.Leading.{false-true, led-serial, led-commit, led-refused, fault_first}
 
 abbrev next : List Event → Call → List Event
@@ -49,47 +46,31 @@ stands_same h r s p q st = record {
   serial = st.serial;
 }
 
--- with less room memory may be wanted all the more
-lack_in_lem : (room : ℕ) (o : Option Life) → lack_in room o ≡ true → lack_in 0 o ≡ true
-lack_in_lem room None p = p
-lack_in_lem room (Some l) p = or_right (is_serial l.txn.level) true refl
-
-lack_more : (c : Call) (e : Engine) (room : ℕ) → may_lack c e room ≡ true → may_lack c e 0 ≡ true
-lack_more (Begin s l) e room p = p
-lack_more (Read s a b) e room p = p
-lack_more (Write s k v) e room p = p
-lack_more (Commit s) e room p = lack_in_lem room (slot_at s e) p
-lack_more (Abort s) e room p = p
-lack_more Sweep e room p = p
-lack_more Sync e room p = p
-lack_more Stop e room p = p
-lack_more Show e room p = p
-
 pub as_itself : (t : Txn) → t.level ≡ Serial → as_serial t ≡ t
 as_itself t p = ap (λ (v : Level). record { level = v; begin = t.begin; reads = t.reads; writes = t.writes }) (sym p)
 
 module _ (h : List Event) (r s : Runs) (a : Answer) (st : Stands h r) where
   -- a call that changes no commits
-  pub call_done : (c : Call) → Asked (Whole c) r.store.now s.store.now a → s.pasts ≡ r.pasts → txns (led (next h c)) ≡ txns (led h) → begins_other c ≡ false → CallDone c h s a
-  call_done c w p q b = go (w.2.engine st.ready h st.engine)
+  pub call_done : (c : Call) → AnswersTo (Whole c) r.store.now s.store.now a → s.pasts ≡ r.pasts → txns (led (next h c)) ≡ txns (led h) → begins_other c ≡ false → CallDone c h s a
+  call_done c w p q b = go (w.engine st.ready h st.engine)
     where
       kept : map past_of (vec_items s.pasts) ≡ txns (led h)
       kept = ap (λ v. map past_of (vec_items v)) p ∙ st.kept
 
-      go : Answers c (led h) (led (next h c)) (reply_to c (led h)) w.0 s.store.now.tables.now w.1 a → CallDone c h s a
-      go (inl d) = inl (record { ready = ap is_ready w.2.stage ∙ st.ready; engine = d.0; kept = kept ∙ sym q; serial = led-serial h c b st.serial }, d.1)
-      go (inr d) = inr (lack_more c (led h) (room_of w.0) d.1, record { ready = ap is_ready w.2.stage ∙ st.ready; engine = d.2; kept = kept; serial = st.serial }, d.3)
+      go : Answers c (led h) (led (next h c)) (reply_to c (led h)) s.store.now.tables.now a → CallDone c h s a
+      go (inl d) = inl (record { ready = w.ready ∙ st.ready; engine = d.0; kept = kept ∙ sym q; serial = led-serial h c b st.serial }, d.1)
+      go (inr d) = inr (d.0, record { ready = w.ready ∙ st.ready; engine = d.1; kept = kept; serial = st.serial }, d.2)
 
   module _ (i : ℕ) (l : Life) (here : slot_at i (led h) ≡ Some l) where
     -- a commit that went through, and is kept
-    pub commit-kept : (p : Past) → past_of p ≡ l.txn → Asked (Whole (Commit i)) r.store.now s.store.now a → commits (reply_of a) ≡ true →
+    pub commit-kept : (p : Past) → past_of p ≡ l.txn → AnswersTo (Whole (Commit i)) r.store.now s.store.now a → commits (reply_of a) ≡ true →
         vec_items s.pasts ≡ vec_items r.pasts ++ (p ∷ []) → CallDone (Commit i) h s a
-    commit-kept p same w b q = go (w.2.engine st.ready h st.engine)
+    commit-kept p same w b q = go (w.engine st.ready h st.engine)
       where
-        go : Answers (Commit i) (led h) (led (next h (Commit i))) (reply_to (Commit i) (led h)) w.0 s.store.now.tables.now w.1 a → CallDone (Commit i) h s a
+        go : Answers (Commit i) (led h) (led (next h (Commit i))) (reply_to (Commit i) (led h)) s.store.now.tables.now a → CallDone (Commit i) h s a
         go (inl d) = inl (
           record {
-            ready = ap is_ready w.2.stage ∙ st.ready;
+            ready = w.ready ∙ st.ready;
             engine = d.0;
             kept =
                 ap (map past_of) q ∙ map_push past_of (vec_items r.pasts) p
@@ -99,44 +80,44 @@ module _ (h : List Event) (r s : Runs) (a : Answer) (st : Stands h r) where
           },
           d.1,
         )
-        go (inr d) = false-true (ap commits (sym d.3) ∙ b)
+        go (inr d) = false-true (ap commits (sym d.2) ∙ b)
 
     -- a commit that was refused, and is not kept
-    pub commit-not-kept : Asked (Whole (Commit i)) r.store.now s.store.now a → commits (reply_of a) ≡ false →
+    pub commit-not-kept : AnswersTo (Whole (Commit i)) r.store.now s.store.now a → commits (reply_of a) ≡ false →
         vec_items s.pasts ≡ vec_items r.pasts → CallDone (Commit i) h s a
-    commit-not-kept w b q = go (w.2.engine st.ready h st.engine)
+    commit-not-kept w b q = go (w.engine st.ready h st.engine)
       where
         kept : map past_of (vec_items s.pasts) ≡ txns (led h)
         kept = ap (map past_of) q ∙ st.kept
 
-        go : Answers (Commit i) (led h) (led (next h (Commit i))) (reply_to (Commit i) (led h)) w.0 s.store.now.tables.now w.1 a → CallDone (Commit i) h s a
+        go : Answers (Commit i) (led h) (led (next h (Commit i))) (reply_to (Commit i) (led h)) s.store.now.tables.now a → CallDone (Commit i) h s a
         go (inl d) = inl (
           record {
-            ready = ap is_ready w.2.stage ∙ st.ready;
+            ready = w.ready ∙ st.ready;
             engine = d.0;
             kept = kept ∙ ap txns (sym (led-refused h i (ap commits (sym d.1) ∙ b)));
             serial = led-serial h (Commit i) refl st.serial;
           },
           d.1,
         )
-        go (inr d) = inr (lack_more (Commit i) (led h) (room_of w.0) d.1, record { ready = ap is_ready w.2.stage ∙ st.ready; engine = d.2; kept = kept; serial = st.serial }, d.3)
+        go (inr d) = inr (d.0, record { ready = w.ready ∙ st.ready; engine = d.1; kept = kept; serial = st.serial }, d.2)
 
     -- a commit for which there is no memory, by the answer z to a line with a fault
-    module _ (z : Answer) (w : Asked (Faulty (Commit i)) r.store.now s.store.now z) (q : s.pasts ≡ r.pasts) where
+    module _ (z : Answer) (w : AnswersTo (Faulty (Commit i)) r.store.now s.store.now z) (q : s.pasts ≡ r.pasts) where
       stands_still : Stands h s
       stands_still = record {
-        ready = ap is_ready w.2.stage ∙ st.ready;
-        engine = subst (Is (led h)) (sym (w.2.engine st.ready).0) st.engine;
+        ready = w.ready ∙ st.ready;
+        engine = subst (Is (led h)) (sym (w.engine st.ready).0) st.engine;
         kept = ap (λ v. map past_of (vec_items v)) q ∙ st.kept;
         serial = st.serial;
       }
 
       pub commit_lacks : reply_of a ≡ refused NoMemory → CallDone (Commit i) h s a
-      commit_lacks e = inr (ap (lack_in 0) here ∙ or_left (is_serial l.txn.level) _ (ap is_serial (st.serial i l here)), stands_still, e)
+      commit_lacks e = inr (ap serial_in here ∙ ap is_serial (st.serial i l here), stands_still, e)
 
       pub commit-first : a ≡ z → bad_line (reply_of z) ≡ false → CallDone (Commit i) h s a
       commit-first e b =
-          let told = (w.2.engine st.ready).2 h st.engine in
+          let told = (w.engine st.ready).1 h st.engine in
           let f = fault_first (refusal_of (Commit i) (led h)) (committed (count (led h))) (ap bad_line (sym told) ∙ b) in
           inl (stands_moved h (next h (Commit i)) s (led-refused h i f.1) stands_still, ap reply_of e ∙ told ∙ f.0)
 

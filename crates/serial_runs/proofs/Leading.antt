@@ -14,7 +14,6 @@ use Rattle.history.proofs.Refusing.{refused_or_not}
 use Rattle.history.proofs.Sounding.{led-more}
 use Rattle.store.specs.Answers.{is_stop, fault_refusal}
 use Rattle.serial_runs.specs.Requests.{other_level, begins_other}
-use Rattle.store.proofs.Recording.{NoCommit, performed-same}
 use Rattle.serial_runs.specs.Standing.{commits, bad_line, OnlySerial}
 
 pub false-true : {X : Type 0} → false ≡ true → X
@@ -69,10 +68,24 @@ led-serial h c p all =
     subst OnlySerial (sym (led-more h (Called c))) (refused_or_not OnlySerial (refusal_of c (led h)) (led h) (performed c (led h)) all (λ _. performed-serial c (led h) p all))
 
 -- no commit, and the commits stay
-pub led-same : (h : List Event) (c : Call) → NoCommit c → txns (led (h ++ (Called c ∷ []))) ≡ txns (led h)
-led-same h c n =
+abbrev pub NoCommit : Call → Type 0
+NoCommit c = (i : ℕ) → c ≡ Commit i → ⊥
+
+performed-same : (c : Call) (e : Engine) → NoCommit c → is_stop c ≡ false → txns (performed c e) ≡ txns e
+performed-same (Begin s l) e n p = none_or_some (λ o. txns (on_begin s o e) ≡ txns e) refl (λ _. refl) l
+performed-same (Read s a b) e n p = none_or_some (λ o. txns (on_read s a b e o) ≡ txns e) refl (λ _. refl) (slot_at s e)
+performed-same (Write s k v) e n p = none_or_some (λ o. txns (on_write s (record { key = k; value = v }) e o) ≡ txns e) refl (λ _. refl) (slot_at s e)
+performed-same (Commit s) e n p = absurd (n s refl)
+performed-same (Abort s) e n p = refl
+performed-same Sweep e n p = refl
+performed-same Sync e n p = refl
+performed-same Stop e n p = false-true (sym p)
+performed-same Show e n p = refl
+
+pub led-same : (h : List Event) (c : Call) → NoCommit c → is_stop c ≡ false → txns (led (h ++ (Called c ∷ []))) ≡ txns (led h)
+led-same h c n p =
     ap txns (led-more h (Called c))
-    ∙ refused_or_not (λ (f : Engine). txns f ≡ txns (led h)) (refusal_of c (led h)) (led h) (performed c (led h)) refl (λ _. performed-same c (led h) n)
+    ∙ refused_or_not (λ (f : Engine). txns f ≡ txns (led h)) (refusal_of c (led h)) (led h) (performed c (led h)) refl (λ _. performed-same c (led h) n p)
 
 -- a commit from an idle slot
 pub led-idle : (h : List Event) (i : ℕ) → slot_at i (led h) ≡ None → txns (led (h ++ (Called (Commit i) ∷ []))) ≡ txns (led h)

@@ -14,9 +14,7 @@ use Rattle.order.specs.Past.{past_of}
 use Rattle.history.specs.Engine.{Life, Engine, txns, slot_at, refusal_of, reply_to, Reply, done, found, committed, shown, refused, Event, Called, led}
 use Rattle.history.specs.Promise.{SerialRun}
 use Rattle.store.specs.Calls.{Is, reply_of, may_lack}
-use Rattle.store.specs.Answers.{ready_of, fault_refusal, slotless_refusal, AnswersTo}
-use Rattle.store.specs.declared.store.Store.{Store}
-use Rattle.journal.specs.declared.gather.Journal.{Journal}
+use Rattle.store.specs.Answers.{ready_of, fault_refusal, slotless_refusal}
 use Rattle.serial_runs.specs.declared.runs.Runs.{Runs}
 use Rattle.serial_runs.specs.Requests.{as_serial, Fitting}
 
@@ -57,14 +55,10 @@ pub record Stands (h : List Event) (r : Runs) : Type 0 where
   pub kept : map past_of (vec_items r.pasts) ≡ txns (led h)
   pub serial : OnlySerial (led h)
 
--- the engine has answered, over some journal
-abbrev pub Asked : Request → Store → Store → Answer → Type 0
-Asked q s t a = (i : Journal) × (j : Journal) × AnswersTo q s i t j a
-
 -- the call is answered by the rules; or memory is wanted, and all is as before
 abbrev pub CallDone : Call → List Event → Runs → Answer → Type 0
 CallDone c h s a =
-    (Stands (h ++ (Called c ∷ [])) s × (reply_of a ≡ reply_to c (led h))) ⊎ ((may_lack c (led h) 0 ≡ true) × Stands h s × (reply_of a ≡ refused NoMemory))
+    (Stands (h ++ (Called c ∷ [])) s × (reply_of a ≡ reply_to c (led h))) ⊎ ((may_lack c (led h) ≡ true) × Stands h s × (reply_of a ≡ refused NoMemory))
 
 -- a line with a fault changes nothing
 abbrev pub RequestDone : Request → List Event → Runs → Answer → Type 0

@@ -11,7 +11,7 @@ use Rattle.history.specs.Engine.{out_of_bounds, refusal_of, refused, Event, led}
 use Rattle.journal.specs.declared.gather.Journal.{Journal}
 use Rattle.store.specs.declared.state.Tables.{Tables}
 use Rattle.store.specs.declared.store.Store.{Store}
-use Rattle.store.specs.Calls.{Is, reply_of, DoesRecording}
+use Rattle.store.specs.Calls.{Is, reply_of, Does, DoesRecording}
 use Rattle.store.specs.Stages.{is_ready}
 
 abbrev pub ready_of : Store → Bool
@@ -58,3 +58,15 @@ pub record AnswersToRecording (q : Request) (s : Store) (i : Journal) (t : Store
   pub stage : t.stage ≡ s.stage
   pub engine : ready_of s ≡ true → AnswersReadyRecording q s.tables.now i t.tables.now j a
   pub none : ready_of s ≡ false → (t.tables.now ≡ s.tables.now) × (j ≡ i) × (reply_of a ≡ refused (unready_refusal q))
+
+-- the same where nobody wants the records
+abbrev pub AnswersReady : Request → Tables → Tables → Answer → Type 0
+AnswersReady (Whole c) s t a = Does c s t a
+AnswersReady (Faulty c) s t a = (t ≡ s) × Faulted c s a
+AnswersReady (Slotless c) s t a = (t ≡ s) × (reply_of a ≡ refused (slotless_refusal c))
+AnswersReady Unknown s t a = (t ≡ s) × (reply_of a ≡ refused BadLine)
+
+pub record AnswersTo (q : Request) (s t : Store) (a : Answer) : Type 0 where
+  pub ready : ready_of t ≡ ready_of s
+  pub engine : ready_of s ≡ true → AnswersReady q s.tables.now t.tables.now a
+  pub none : ready_of s ≡ false → (t.tables.now ≡ s.tables.now) × (reply_of a ≡ refused (unready_refusal q))

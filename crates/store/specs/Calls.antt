@@ -108,6 +108,31 @@ AnswersRecording c e f r i t j a =
 abbrev pub PerformsRecording : Call → Tables → Journal → Tables → Journal → Answer → Type 0
 PerformsRecording c s i t j a = (e : Engine) → Sound e → Is e s → refusal_of c e ≡ None → AnswersRecording c e (performed c e) (replied c e) i t j a
 
+abbrev pub serial_in : Option Life → Bool
+serial_in None = false
+serial_in (Some l) = is_serial l.txn.level
+
+-- where memory may be wanted, where nobody wants the records: for what a read finds, and for what is kept of a Serial
+-- that commits
+abbrev pub may_lack : Call → Engine → Bool
+may_lack (Begin s l) e = false
+may_lack (Read s a b) e = true
+may_lack (Write s k v) e = false
+may_lack (Commit s) e = serial_in (slot_at s e)
+may_lack (Abort s) e = false
+may_lack Sweep e = false
+may_lack Sync e = false
+may_lack Stop e = false
+may_lack Show e = false
+
+-- the call is answered by the rules; or memory is wanted, and all is as before
+abbrev pub Answers : Call → Engine → Engine → Reply → Tables → Answer → Type 0
+Answers c e f r t a =
+    (Is f t × (reply_of a ≡ r)) ⊎ ((may_lack c e ≡ true) × Is e t × (reply_of a ≡ refused NoMemory))
+
+abbrev pub PerformsOr : Call → Tables → Tables → Answer → Type 0
+PerformsOr c s t a = (e : Engine) → Sound e → Is e s → refusal_of c e ≡ None → Answers c e (performed c e) (replied c e) t a
+
 abbrev pub Counted : Tables → Counts → Type 0
 Counted s r = (e : Engine) → Is e s → shown r.commits r.versions r.busy ≡ replied Show e
 
@@ -140,6 +165,9 @@ Enters t s i u j (Err y) = (e : Engine) (k : ℕ) (l : Life) → Sound e → Is 
 -- whatever events led to the tables, they are where they and the call lead, and the answer is the one that the rules give
 abbrev pub DoesRecording : Call → Tables → Journal → Tables → Journal → Answer → Type 0
 DoesRecording c s i t j a = (h : List Event) → Is (led h) s → AnswersRecording c (led h) (led (h ++ (Called c ∷ []))) (reply_to c (led h)) i t j a
+
+abbrev pub Does : Call → Tables → Tables → Answer → Type 0
+Does c s t a = (h : List Event) → Is (led h) s → Answers c (led h) (led (h ++ (Called c ∷ []))) (reply_to c (led h)) t a
 
 -- some events, from an empty engine on, led to the tables
 abbrev pub Led : Tables → Type 0

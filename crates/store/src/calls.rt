@@ -8,11 +8,11 @@ ghost use Rattle.versions.specs.Store.{spaces};
 ghost use Rattle.journal.specs.declared.gather.Journal.{Journal};
 ghost use Rattle.history.specs.Engine.{fresh, out_of_bounds, when, first_of};
 ghost use Rattle.store.specs.Fits.{counts, lower_run, floor_of, busy_run, busy_of};
-ghost use Rattle.store.specs.Calls.{Is, Refuses, SlotRefuses, Judges, Puts, Keeps, Performs, PerformsRecording, Counted, Finds, StandsAt, Looks, CommitsBy, Enters};
+ghost use Rattle.store.specs.Calls.{Is, Refuses, SlotRefuses, Judges, Puts, Keeps, Performs, PerformsOr, PerformsRecording, Counted, Finds, StandsAt, Looks, CommitsBy, Enters};
 
 use crate::state::Tables;
 use conflicts::Window;
-use journal::Journal;
+use journal::{Journal, LARGEST_RECORD};
 use model::{Answer, Call, Counts, Entry, Level, Refusal};
 use std::alloc::{AllocError, Global};
 use transactions::{Slot, Transaction};
@@ -451,7 +451,16 @@ impl Tables<'_, '_> {
         Ok(())
     }
 
-    // Does a call that is not refused.
+    // Does a call that is not refused, where nobody wants the records.
+    pub fn perform(&mut self, call: Call) -> Answer
+        ensures { PerformsOr call self.old self.new result }
+    {
+        let mut record = [0; LARGEST_RECORD];
+        let mut journal = Journal::over(&mut record);
+        self.perform_recording(call, &mut journal)
+    }
+
+    // Does a call that is not refused. The record of a commit goes to the journal.
     pub fn perform_recording(&mut self, call: Call, journal: &mut Journal) -> Answer
         ensures { PerformsRecording call self.old journal.old self.new journal.new result }
     {

@@ -33,7 +33,7 @@ fn is_bad_line(answer: &Answer) -> bool
     }
 }
 
-impl Runs<'_, '_, '_, '_, '_> {
+impl Runs<'_, '_, '_, '_> {
     // Answers a request as the engine does, and keeps what each commit did.
     pub fn answer(&mut self, request: Request) -> Answer
         ensures { Answered request self.old self.new result }

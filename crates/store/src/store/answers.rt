@@ -5,13 +5,13 @@ ghost use Rattle.versions.specs.Store.{spaces};
 ghost use Rattle.history.specs.Engine.{fresh, Event, led};
 ghost use Rattle.history.specs.Promise.{Promised};
 ghost use Rattle.store.specs.Calls.{Is, DoesRecording, reply_of};
-ghost use Rattle.store.specs.Answers.{ready_of, is_stop, slotless_refusal, unready_refusal, Faulted, AnswersToRecording};
+ghost use Rattle.store.specs.Answers.{ready_of, is_stop, slotless_refusal, unready_refusal, Faulted, AnswersTo, AnswersToRecording};
 
 use super::Store;
 use crate::calls::is_out_of_bounds;
 use crate::stage::Stage;
 use crate::state::Tables;
-use journal::Journal;
+use journal::{Journal, LARGEST_RECORD};
 use model::{Answer, Call, Refusal, Request};
 use transactions::Slot;
 
@@ -91,6 +91,16 @@ impl Store<'_, '_, '_> {
         ensures { run_of result ≡ slice_index_or (map run_of self.now.tables.now.slots) slot idle }
     {
         self.tables.slot(slot)
+    }
+
+    // The answer to one request, where nobody wants the records.
+    pub fn answer(&mut self, request: Request) -> Answer
+        ensures answers { AnswersTo request self.old self.new result }
+        ensures promises { (h : List Event) → Is (led h) self.new.tables.now → Promised h }
+    {
+        let mut record = [0; LARGEST_RECORD];
+        let mut journal = Journal::over(&mut record);
+        self.answer_recording(request, &mut journal)
     }
 
     // The answer to one request. The record of a commit goes to the journal.

@@ -8,6 +8,6 @@ use Rattle.serial_runs.proofs.runs.Runs.answer.Goals as goal
 
 pub returns-in-Whole : goal.returns-in-Whole
 returns-in-Whole c = λ h st.
-    let p : as_serial c.args.request ≡ Whole c.in-Whole.call = sym c.as-serial.ensures ∙ c.in-Whole.is in
+    let p : as_serial c.args.request ≡ Whole c.in-Whole.call = sym c.as_serial.ensures ∙ c.in-Whole.is in
     subst (λ (q : Request). RequestDone q h c.call.new.self c.call.result) (sym p)
     (c.call.ensures h st (through.asked c.args.request c.in-Whole.call p).1)

@@ -15,4 +15,4 @@ returns-in-Idle c = λ h st.
 pub returns-in-Active : goal.returns-in-Active
 returns-in-Active c = λ h st.
     let x = going-told (led h) _ _ _ _ st.engine c.args.slot (model_of c.in-Active.t) c.in-Active.ensures in
-    c.commit-by.ensures h x.0 st x.1 x.2
+    c.commit_by.ensures h x.0 st x.1 x.2

@@ -5,9 +5,9 @@ use Rattle.serial_runs.proofs.runs.Runs.commit_by.Goals as goal
 
 pub returns-in-Ok : goal.returns-in-Ok
 returns-in-Ok c = λ h l st here same.
-    c.commit-as.ensures h l (stands_same h c.args.self.now c.past_of.new.self c.past_of.ensures.store c.past_of.ensures.pasts st) here
+    c.commit_as.ensures h l (stands_same h c.args.self.now c.past_of.new.self c.past_of.ensures.store c.past_of.ensures.pasts st) here
     (c.in-Ok.ensures.past ∙ ap as_serial same ∙ as_itself l.txn (st.serial c.args.slot l here))
 
 pub returns-in-Err : goal.returns-in-Err
 returns-in-Err c = λ h l st here same.
-    c.commit-without.ensures l.txn h l (stands_same h c.args.self.now c.past_of.new.self c.past_of.ensures.store c.past_of.ensures.pasts st) here refl
+    c.commit_without.ensures l.txn h l (stands_same h c.args.self.now c.past_of.new.self c.past_of.ensures.store c.past_of.ensures.pasts st) here refl

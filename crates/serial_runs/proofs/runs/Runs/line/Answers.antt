@@ -6,5 +6,5 @@ use Rattle.serial_runs.proofs.runs.Runs.line.Goals as goal
 
 pub returns : goal.returns
 returns c =
-    in_line c.args.self.now c.line-of.result
-    (subst (λ (ps : List Past). LineTold (map past_of ps) c.line-of.result) c.deref.ensures.value c.line-of.ensures.line)
+    in_line c.args.self.now c.line_of.result
+    (subst (λ (ps : List Past). LineTold (map past_of ps) c.line_of.result) c.deref.ensures.value c.line_of.ensures.line)
