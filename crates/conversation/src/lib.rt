@@ -1,5 +1,5 @@
 // A conversation by lines: requests from an input, answers to an output.
-use lines::{LineBuffer, say};
+use lines::{LineBuffer, say_bytes};
 use model::{Answer, Request};
 use std::alloc::{AllocError, Global};
 use std::io::{Read, Write};
@@ -45,7 +45,7 @@ pub fn converse<S: Service, I: Read, W: Write>(
     }
     if let Some(request) = line.last() {
         let answer = service.answer(request)?;
-        say(&mut text, &answer)?;
+        say_bytes(&mut text, &answer)?;
     }
     print(service, &mut text, output)
 }
@@ -59,7 +59,7 @@ fn reply<S: Service, W: Write>(
 ) -> Result<(), S::Trouble> {
     for request in requests {
         let answer = service.answer(*request)?;
-        say(text, &answer)?;
+        say_bytes(text, &answer)?;
         if text.len() >= ENOUGH {
             print(service, text, output)?;
         }

@@ -4,11 +4,11 @@ use model::{Answer, Request};
 use serial_runs::Runs;
 
 #[derive(Drop)]
-pub struct Desk<'d, 'r, 'j, 't, 's, 'a> {
-    pub runs: &'d mut Runs<'r, 'j, 't, 's, 'a>,
+pub struct Desk<'d, 'r, 't, 's, 'a> {
+    pub runs: &'d mut Runs<'r, 't, 's, 'a>,
 }
 
-impl Service for Desk<'_, '_, '_, '_, '_, '_> {
+impl Service for Desk<'_, '_, '_, '_, '_> {
     type Trouble = anyhow::Error;
 
     fn answer(&mut self, request: Request) -> anyhow::Result<Answer> {

@@ -4,7 +4,6 @@ mod desk;
 use anyhow::anyhow;
 use conversation::converse;
 use desk::Desk;
-use journal::Journal;
 use serial_runs::{Runs, say_order};
 use std::io::Write;
 use store::{Room, Store, Tables};
@@ -40,14 +39,11 @@ fn run(rt: &HostRuntime) -> anyhow::Result<()> {
 
 fn serve(rt: &HostRuntime, tables: &mut Tables) -> anyhow::Result<()> {
     let mut store = Store::over(tables);
-    // room for one record
-    let mut bytes = vec![in rt.alloc(); 0u8; 390]?;
-    let mut journal = Journal::over(bytes.as_mut_slice());
-    keep(rt, &mut store, &mut journal)
+    keep(rt, &mut store)
 }
 
-fn keep(rt: &HostRuntime, store: &mut Store, journal: &mut Journal) -> anyhow::Result<()> {
-    let mut runs = Runs::new(rt.alloc(), store, journal);
+fn keep(rt: &HostRuntime, store: &mut Store) -> anyhow::Result<()> {
+    let mut runs = Runs::new(rt.alloc(), store);
     talk(rt, &mut runs)?;
     tell(rt, &runs)
 }
@@ -62,8 +58,8 @@ fn tell(rt: &HostRuntime, runs: &Runs) -> anyhow::Result<()> {
     let Ok(order) = runs.line() else {
         return Err(anyhow!("no memory for the serial order"));
     };
-    let mut text = Vec::new(rt.alloc());
+    let mut text = String::new(rt.alloc());
     say_order(&mut text, &order)?;
-    rt.stdout().write_all(text.as_slice())?;
+    rt.stdout().write_all(text.as_bytes())?;
     Ok(())
 }
