@@ -1,6 +1,7 @@
 // The store and its file as they answer a conversation.
 use crate::disk::Disk;
 use crate::trouble::Trouble;
+use anyhow::anyhow;
 use conversation::Service;
 use journal::{Fault, Journal};
 use model::{Answer, Call, Request};
@@ -58,7 +59,9 @@ impl Hall<'_, '_, '_, '_, '_> {
                 self.tell(flaw);
                 Ok(())
             }
-            Opening::NotLoading => Err(Trouble::Other("there is no room for the versions".into())),
+            Opening::NotLoading => Err(Trouble::Other(anyhow!(
+                "there is no room for the versions"
+            ))),
         }
     }
 
@@ -109,7 +112,7 @@ impl Hall<'_, '_, '_, '_, '_> {
     }
 
     fn sync(&mut self, request: Request) -> Result<Answer, Trouble> {
-        let answer = self.store.answer(request, self.journal);
+        let answer = self.store.answer_recording(request, self.journal);
         if let Answer::Done = &answer {
             write_out(self.journal, &mut self.disk)?;
             self.disk.sync()?;
@@ -126,7 +129,7 @@ impl Service for Hall<'_, '_, '_, '_, '_> {
         match request {
             Request::Whole(Call::Stop) => self.stop(),
             Request::Whole(Call::Sync) => self.sync(request),
-            _ => Ok(self.store.answer(request, self.journal)),
+            _ => Ok(self.store.answer_recording(request, self.journal)),
         }
     }
 

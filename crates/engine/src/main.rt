@@ -3,11 +3,13 @@ mod disk;
 mod hall;
 mod trouble;
 
+use anyhow::anyhow;
 use conversation::converse;
 use disk::Disk;
 use hall::Hall;
 use journal::Journal;
 use std::env;
+use std::process::ExitCode;
 use store::{Room, Store, Tables};
 use trouble::Trouble;
 use versions::{Versions, Words};
@@ -15,7 +17,7 @@ use versions::{Versions, Words};
 // So many bytes of records are gathered before they are written to the file.
 const RECORDS: usize = 131072;
 
-fn main(rt: HostRuntime) -> Result<(), Trouble> {
+fn main(rt: HostRuntime) -> ExitCode {
     match file_name(&rt) {
         Ok(name) => told(&rt, &name, run(&rt, &name)),
         Err(trouble) => told(&rt, "", Err(trouble)),
@@ -27,18 +29,19 @@ fn file_name(rt: &HostRuntime) -> Result<String, Trouble> {
     let mut args = env::args(rt)?.skip(1);
     match (args.next(), args.next()) {
         (Some(name), None) => Ok(name),
-        _ => Err(Trouble::Other("give the name of the file: engine FILE".into())),
+        _ => Err(Trouble::Other(anyhow!("give the name of the file: engine FILE"))),
     }
 }
 
-// Says in one line what went wrong, if something did.
-fn told(rt: &HostRuntime, name: &str, res: Result<(), Trouble>) -> Result<(), Trouble> {
-    match &res {
-        Ok(()) => {}
-        Err(Trouble::File { failed, why }) => eprintln!(rt; "engine: {name} {failed}: {why}")?,
-        Err(Trouble::Other(why)) => eprintln!(rt; "engine: {why}")?,
-    }
-    res
+// Says in one line what went wrong, if something did. Where nobody can be told, the status says it.
+fn told(rt: &HostRuntime, name: &str, res: Result<(), Trouble>) -> ExitCode {
+    let said = match res {
+        Ok(()) => return ExitCode::SUCCESS,
+        Err(Trouble::File { failed, why }) => eprintln!(rt; "engine: {name} {failed}: {why}"),
+        Err(Trouble::Other(why)) => eprintln!(rt; "engine: {why}"),
+    };
+    let _ = said;
+    ExitCode::FAILURE
 }
 
 fn run(rt: &HostRuntime, name: &str) -> Result<(), Trouble> {

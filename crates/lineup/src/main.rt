@@ -6,15 +6,18 @@ use conversation::converse;
 use desk::Desk;
 use serial_runs::{Runs, say_order};
 use std::io::Write;
+use std::process::ExitCode;
 use store::{Room, Store, Tables};
 use versions::{Versions, Words};
 
-fn main(rt: HostRuntime) -> anyhow::Result<()> {
-    let result = run(&rt);
-    if let Err(trouble) = &result {
-        eprintln!(rt; "lineup: {trouble}")?;
+fn main(rt: HostRuntime) -> ExitCode {
+    match run(&rt) {
+        Ok(()) => ExitCode::SUCCESS,
+        Err(trouble) => {
+            let _ = eprintln!(rt; "lineup: {trouble}");
+            ExitCode::FAILURE
+        }
     }
-    result
 }
 
 fn run(rt: &HostRuntime) -> anyhow::Result<()> {
