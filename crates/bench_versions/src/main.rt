@@ -1,5 +1,7 @@
 // Looks, commits and sweeps with all versions in use. Prints a sum over what was seen, which is always the same, and
 // with the word `time` also the nanoseconds that each call took, at best.
+#![tactic(auto)]
+
 mod rounds;
 mod tasks;
 

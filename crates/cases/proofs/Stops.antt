@@ -6,7 +6,6 @@ use Rattle.model.specs.Transactions.{Txn}
 use Rattle.history.specs.Engine.{txn_of, txns, count, record_size, bytes_in, whole_in, Event, led}
 use Rattle.history.proofs.Files.{whole-within}
 use Rattle.history.proofs.Promising.{stop_keeps}
-use Rattle.history.proofs.Sounding.{always_sound}
 use Rattle.cases.specs.Rows.{synced_bytes, left_at, Leaves}
 
 -- the bytes of the first n records hold n whole ones

@@ -7,7 +7,7 @@ use Rattle.model.specs.declared.Level.{Level}
 use Rattle.model.specs.declared.Level.TheVariants.{Latest, Snapshot, Serial}
 use Rattle.model.specs.declared.Refusal.TheVariants.{WriteConflict, Pivot}
 use Rattle.model.specs.Versions.{Version}
-use Rattle.history.specs.Engine.{Reply, done, found, committed, refused, Event, Called}
+use Rattle.history.specs.Engine.{done, found, committed, refused, Event, Called}
 use Rattle.cases.specs.Rows.{Row, line_is, held_after, StopLeaves, ComesOut}
 
 abbrev pub begin : ℕ → Level → Event

@@ -1,4 +1,6 @@
 // Worked cases, over the same definitions that the engine's contracts have.
+#![tactic(auto)]
+
 ghost use Rattle.cases.specs.Table.{EveryRow};
 
 // Every row of the table comes out as it should.

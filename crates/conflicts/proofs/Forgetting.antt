@@ -1,10 +1,10 @@
 -- Those below a floor are forgotten.
-use Rattle.std.proofs.Common.{◌≡◌, ℕ, suc, ◌+◌, ◌<◌, ◌≤◌, Bool, true, false, cond, ◌&&◌, ltb, leb, List, [], ◌∷◌, map, length, sym, refl, ap, ◌∙◌, ⊎_elim, arith}
+use Rattle.std.proofs.Common.{◌≡◌, ℕ, suc, ◌+◌, ◌<◌, ◌≤◌, Bool, true, false, cond, ◌&&◌, leb, List, [], ◌∷◌, map, length, sym, refl, ap, ◌∙◌, ⊎_elim, arith}
 use Rattle.std.proofs.lemmas.Bool.{le-leb, lt-leb, leb-true, le-ltb, lt-ltb, and_parts, and_right, cases_lt}
 use Rattle.model.specs.Lists.{kept}
 use Rattle.model.specs.Transactions.{Txn, is_serial}
 use Rattle.model.specs.Commits.{Commit, numbered, commits}
-use Rattle.conflicts.specs.Marks.{Mark, from_floor}
+use Rattle.conflicts.specs.Marks.{from_floor}
 use Rattle.conflicts.specs.Held.{mark_among, recent, held_of}
 use Rattle.conflicts.proofs.Numbers.{commit}
 

@@ -1,5 +1,5 @@
 -- The first commit that passes a test has the lowest number.
-use Rattle.std.proofs.Common.{◌≡◌, ℕ, zero, suc, ◌+◌, ◌<◌, ◌≤◌, Bool, true, false, cond, List, [], ◌∷◌, length, get_or, is_some, Some, None, Option, sym, refl, ap, ◌∙◌, subst, arith, MatchOption}
+use Rattle.std.proofs.Common.{◌≡◌, ℕ, zero, suc, ◌+◌, ◌<◌, Bool, true, false, cond, List, [], ◌∷◌, length, is_some, Some, None, Option, sym, refl, ap, ◌∙◌, arith, MatchOption}
 use Rattle.model.specs.Lists.{any}
 use Rattle.model.specs.Transactions.{Txn}
 use Rattle.model.specs.Commits.{Commit, numbered, commits}

@@ -1,12 +1,12 @@
 -- The marks of the commits from a floor on, with one commit more.
-use Rattle.std.proofs.Common.{◌≡◌, ℕ, ◌<◌, ◌≤◌, Bool, true, false, cond, ◌&&◌, ◌||◌, eqb, leb, List, [], ◌∷◌, ◌++◌, map, length, is_some, sym, refl, ap, ◌∙◌, ⊎_elim, arith}
+use Rattle.std.proofs.Common.{◌≡◌, ℕ, ◌≤◌, Bool, true, false, cond, ◌&&◌, ◌||◌, leb, List, [], ◌∷◌, ◌++◌, map, length, is_some, sym, refl, ap, ◌∙◌, ⊎_elim, arith}
 use Rattle.std.specs.List.{AllByRecursion as All}
-use Rattle.std.proofs.lemmas.Bool.{le-leb, lt-leb, leb-false, ne_eqb, eq-eqb, and_parts, and_cases, and_from}
+use Rattle.std.proofs.lemmas.Bool.{le-leb, lt-leb, leb-false, ne_eqb, and_parts, and_cases, and_from}
 use Rattle.std.proofs.lemmas.List.{append-nil, map_push}
 use Rattle.model.specs.Lists.{any, kept}
-use Rattle.model.specs.Transactions.{Txn, reads_some, is_serial}
+use Rattle.model.specs.Transactions.{Txn, is_serial}
 use Rattle.model.specs.Commits.{Commit, commits, unseen, passes, is_pivot, has_pivot}
-use Rattle.conflicts.specs.Marks.{Mark, lowest, since, mark_number, is_passed, is_passing, turns, would_pivot, remarked, new_mark, taken_in}
+use Rattle.conflicts.specs.Marks.{lowest, since, mark_number, is_passed, is_passing, turns, would_pivot, remarked, new_mark, taken_in}
 use Rattle.conflicts.specs.Held.{commit_number, mark_among, recent, held_of, Timely}
 use Rattle.conflicts.proofs.Bools.{or_false, turned, since-not}
 use Rattle.conflicts.proofs.Firsts.{any_push, lowest_push, some_lowest, kept_push, none_passes, all_both, any_same, any-nobody, map-kept, lowest-kept, any-kept, map-map}

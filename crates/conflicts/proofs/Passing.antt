@@ -1,5 +1,5 @@
 -- Whether one commit passes another, from its parts.
-use Rattle.std.proofs.Common.{◌≡◌, Bool, true, false, ◌&&◌, eqb, leb, refl}
+use Rattle.std.proofs.Common.{◌≡◌, Bool, true, false, ◌&&◌, eqb, refl}
 use Rattle.std.proofs.lemmas.Bool.{eq-eqb}
 use Rattle.model.specs.Transactions.{reads_some, is_serial}
 use Rattle.model.specs.Commits.{Commit, unseen, passes}

@@ -1,5 +1,5 @@
 -- From the window's marks to the rules over all commits.
-use Rattle.std.proofs.Common.{◌≡◌, ℕ, ◌≤◌, Bool, true, false, List, [], ◌∷◌, ◌++◌, length, sym, ap, ◌∙◌}
+use Rattle.std.proofs.Common.{◌≡◌, ℕ, Bool, true, false, List, [], ◌∷◌, ◌++◌, length, sym, ap, ◌∙◌}
 use Rattle.model.specs.Transactions.{Txn, is_serial}
 use Rattle.model.specs.Commits.{commits}
 use Rattle.conflicts.specs.declared.window.Window.{Window}

@@ -1,5 +1,5 @@
 -- What is kept of committed Serials, and what it says of one more.
-use Rattle.std.specs.Prelude.{◌≡◌, ℕ, Bool, true, false, cond, ◌&&◌, ◌||◌, List, [], ◌∷◌, ◌++◌, map, is_some, Some, None, Ok, Err, vec_items, Option, Result, nat_le, nat_lt}
+use Rattle.std.specs.Prelude.{◌≡◌, ℕ, Bool, true, cond, ◌&&◌, ◌||◌, List, [], ◌∷◌, ◌++◌, map, is_some, Some, None, Ok, Err, vec_items, Option, Result, nat_le, nat_lt}
 use Rattle.model.specs.declared.Entry.{Entry}
 use Rattle.model.specs.declared.Level.{Level}
 use Rattle.model.specs.declared.Refusal.{Refusal}

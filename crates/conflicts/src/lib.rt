@@ -1,4 +1,6 @@
 // The check at commit: what the commits that are still of interest did, and whether with one more there would be a pivot.
+#![tactic(auto)]
+
 mod laws;
 mod window;
 

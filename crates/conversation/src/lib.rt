@@ -1,4 +1,6 @@
 // A conversation by lines: requests from an input, answers to an output.
+#![tactic(auto)]
+
 use lines::{LineBuffer, say_bytes};
 use model::{Answer, Request};
 use std::alloc::{AllocError, Global};

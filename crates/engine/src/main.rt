@@ -1,4 +1,6 @@
 // The program: lines on standard input, answers on standard output, commits in a file.
+#![tactic(auto)]
+
 mod disk;
 mod hall;
 mod trouble;

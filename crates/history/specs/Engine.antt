@@ -1,5 +1,5 @@
 -- The engine as the rules have it: what calls and stops do to it, and what it answers.
-use Rattle.std.specs.Prelude.{ℕ, suc, ◌+◌, ◌-◌, ◌*◌, min, Bool, true, false, cond, not, ◌||◌, List, [], ◌∷◌, ◌++◌, map, length, take, replicate, is_some, Some, None, Option, nat_le, nat_lt, slice_index_or, slice_set}
+use Rattle.std.specs.Prelude.{ℕ, suc, ◌+◌, ◌-◌, ◌*◌, min, Bool, false, cond, not, ◌||◌, List, [], ◌∷◌, ◌++◌, map, length, take, replicate, is_some, Some, None, Option, nat_le, nat_lt, slice_index_or, slice_set}
 use Rattle.model.specs.declared.Call.{Call}
 use Rattle.model.specs.declared.Call.TheVariants.{Begin, Read, Write, Commit, Abort, Sweep, Sync, Stop, Show}
 use Rattle.model.specs.declared.Entry.{Entry}

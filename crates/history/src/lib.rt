@@ -1,4 +1,6 @@
 // The engine as the rules have it, over every list of calls, syncs and stops.
+#![tactic(auto)]
+
 ghost use Rattle.history.specs.Sound.{AllSound};
 ghost use Rattle.history.specs.Promise.{Promises};
 ghost use Rattle.history.specs.Examples.{Examples};

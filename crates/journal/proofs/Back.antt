@@ -1,5 +1,5 @@
 -- What was written is read back; a record cut short is seen to be so.
-use Rattle.std.proofs.Common.{◌≡◌, ℕ, ◌+◌, ◌*◌, ◌/◌, ◌%◌, ◌^◌, ◌<◌, ◌≤◌, Bool, true, false, cond, eqb, ltb, leb, List, [], ◌∷◌, ◌++◌, length, get_or, take, drop, sym, refl, ap, ◌∙◌, arith}
+use Rattle.std.proofs.Common.{◌≡◌, ℕ, ◌+◌, ◌*◌, ◌/◌, ◌%◌, ◌^◌, ◌<◌, ◌≤◌, false, ltb, List, [], ◌∷◌, ◌++◌, length, get_or, take, drop, sym, refl, ap, ◌∙◌, arith}
 use native.Mathlib.Nat.{div-div-eq-div-mul}
 use Rattle.std.specs.List.{flat_map, AllByRecursion as All}
 use Rattle.std.proofs.lemmas.List.{length-append, get_or-take, length-take-le}
@@ -8,7 +8,7 @@ use Rattle.std.proofs.lemmas.Bool.Decides.{nat_tests}
 use Rattle.model.specs.declared.Entry.{Entry}
 use Rattle.model.specs.Lists.{any}
 use Rattle.journal.specs.Records.{be2, be4, entry_bytes, head_bytes, record_of, written, strays, FineEntry, FineCommit}
-use Rattle.journal.specs.Parsing.{of2, of4, entry_of, entries_of, counted, entries_in, Reading, whole, short, checked, parsed}
+use Rattle.journal.specs.Parsing.{of2, of4, entry_of, entries_of, counted, entries_in, whole, short, checked, parsed}
 use Rattle.journal.specs.Laws.{RecordBack}
 use Rattle.journal.proofs.Places.{length-record}
 

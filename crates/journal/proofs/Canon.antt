@@ -1,5 +1,5 @@
 -- What is read is what stands there: a whole record's bytes are those of its number and writes.
-use Rattle.std.proofs.Common.{◌≡◌, ℕ, zero, suc, ◌+◌, ◌*◌, ◌/◌, ◌%◌, ◌^◌, ◌<◌, ◌≤◌, false, cond, ltb, List, [], ◌∷◌, ◌++◌, length, get_or, take, drop, sym, refl, ap, ◌∙◌, subst, arith, take-add, w8, Fits}
+use Rattle.std.proofs.Common.{◌≡◌, ℕ, zero, suc, ◌+◌, ◌*◌, ◌/◌, ◌%◌, ◌^◌, ◌<◌, ◌≤◌, false, ltb, List, [], ◌∷◌, ◌++◌, length, get_or, take, drop, sym, refl, ap, ◌∙◌, subst, arith, take-add, w8, Fits}
 use Rattle.std.specs.List.{flat_map, AllByRecursion as All}
 use Rattle.std.proofs.ByRecursion.{All-drop, All-from_get_or}
 use Rattle.std.proofs.lemmas.List.{length-drop}
@@ -11,7 +11,7 @@ use Rattle.journal.specs.Records.{be2, be4, entry_bytes, head_bytes, record_of, 
 use Rattle.journal.specs.Parsing.{of2, of4, entry_of, entries_of, counted, Reading, whole, short, faulty, parsed, RecordIn}
 use Rattle.journal.specs.Files.{file_from, Opened, good, bad, after, onward, turned, replayed, opened, Read, ReadIn}
 use Rattle.journal.specs.Laws.{Canonical, ReadFine}
-use Rattle.journal.proofs.Reading.{Within, whole-within}
+use Rattle.journal.proofs.Reading.{whole-within}
 
 abbrev Small : List ℕ → Type 0
 Small bs = All (λ b. b < 256) bs

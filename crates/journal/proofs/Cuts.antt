@@ -1,13 +1,12 @@
 -- A file cut anywhere is read as the commits whose records end before the cut.
-use Rattle.std.proofs.Common.{◌≡◌, ℕ, zero, suc, ◌+◌, ◌-◌, ◌*◌, ◌^◌, ◌<◌, ◌≤◌, Bool, true, false, cond, leb, List, [], ◌∷◌, ◌++◌, length, take, drop, sym, refl, ap, ◌∙◌, subst, inl, inr, ⊎_elim, arith}
+use Rattle.std.proofs.Common.{◌≡◌, ℕ, suc, ◌+◌, ◌-◌, ◌*◌, ◌^◌, ◌<◌, List, [], ◌∷◌, ◌++◌, length, take, sym, refl, ap, ◌∙◌, subst, ⊎_elim, arith}
 use lib.Seq.{take-append-add, take-nil}
 use Rattle.std.specs.List.{AllByRecursion as All}
 use Rattle.std.proofs.lemmas.List.{length-append, take-append-le, take_all, drop_at}
 use Rattle.std.proofs.lemmas.Bool.{cases_lt, le-leb, lt-leb, cond-true, cond-false}
 use Rattle.model.specs.declared.Entry.{Entry}
 use Rattle.journal.specs.Records.{record_of, FineCommit}
-use Rattle.journal.specs.Parsing.{short, parsed}
-use Rattle.journal.specs.Files.{file_from, file_of, Opened, good, after, replayed, whole_in}
+use Rattle.journal.specs.Files.{file_from, file_of, good, after, replayed, whole_in}
 use Rattle.journal.specs.Laws.{FileBack, CutAnywhere}
 use Rattle.journal.proofs.Places.{length-record}
 use Rattle.journal.proofs.Reading.{nothing_short}

@@ -1,15 +1,14 @@
 -- Bytes are read in pieces as they are at once.
-use Rattle.std.proofs.Common.{◌≡◌, ℕ, zero, suc, ◌+◌, ◌*◌, ◌^◌, ◌<◌, ◌≤◌, Bool, true, false, cond, eqb, ltb, leb, List, [], ◌∷◌, ◌++◌, length, get_or, drop, sym, refl, ap, ◌∙◌, add-zero, add_assoc, arith}
+use Rattle.std.proofs.Common.{◌≡◌, ℕ, zero, suc, ◌+◌, ◌*◌, ◌^◌, ◌≤◌, Bool, true, false, cond, eqb, ltb, List, [], ◌∷◌, ◌++◌, length, get_or, drop, sym, refl, ap, ◌∙◌, add-zero, add_assoc, arith}
 use Rattle.std.proofs.lemmas.List.{length-append, length-drop, drop-drop, drop-append-le, get_or_append_left}
 use Rattle.std.proofs.lemmas.Bool.{cond_both, ltb-false, eqb-false}
 use Rattle.std.proofs.lemmas.Bool.Decides.{nat_tests}
 use Rattle.model.specs.declared.Entry.{Entry}
-use Rattle.journal.specs.declared.types.Fault.{Fault}
 use Rattle.journal.specs.declared.types.Fault.TheVariants.{UnknownKind, WrongNumber}
 use Rattle.journal.specs.Parsing.{of2, of4, entry_of, entries_of, counted, entries_in, Reading, whole, short, faulty, checked, parsed}
 use Rattle.journal.specs.Files.{Opened, good, bad, after, onward, turned, replayed, behind, on_good}
 use Rattle.journal.specs.Laws.{InPieces}
-use Rattle.journal.proofs.Reading.{Within, whole-within}
+use Rattle.journal.proofs.Reading.{whole-within}
 use Rattle.journal.proofs.Replaying.{replayed-step, replayed-faulty, behind-none}
 
 of4-more : (bs more : List ℕ) → 4 ≤ length bs → of4 (bs ++ more) ≡ of4 bs

@@ -1,10 +1,10 @@
 -- What is known of a record that was read.
-use Rattle.std.proofs.Common.{◌≡◌, ℕ, ◌+◌, ◌*◌, ◌<◌, ◌≤◌, true, false, cond, eqb, ltb, leb, List, [], ◌∷◌, ◌++◌, length, get_or, drop, sym, refl, ap, ◌∙◌, subst, arith}
+use Rattle.std.proofs.Common.{◌≡◌, ℕ, ◌+◌, ◌*◌, ◌≤◌, false, eqb, ltb, leb, List, [], length, get_or, drop, sym, refl, ap, subst, arith}
 use Rattle.std.proofs.lemmas.Bool.{cond_both, ltb-false, leb-true, eqb-true}
 use Rattle.model.specs.declared.Entry.{Entry}
 use Rattle.journal.specs.declared.types.Fault.{Fault}
-use Rattle.journal.specs.declared.types.Fault.TheVariants.{UnknownKind, WrongNumber, TooManyWrites, KeyOutOfBounds}
-use Rattle.journal.specs.declared.types.Parsed.TheVariants.{Whole, Short, Bad}
+use Rattle.journal.specs.declared.types.Fault.TheVariants.{KeyOutOfBounds}
+use Rattle.journal.specs.declared.types.Parsed.TheVariants.{Whole, Bad}
 use Rattle.journal.specs.Records.{strays}
 use Rattle.journal.specs.Parsing.{of4, entries_of, counted, entries_in, Reading, whole, short, faulty, checked, parsed, outlined}
 use Rattle.journal.proofs.Entries.{length-read}

@@ -1,5 +1,5 @@
 -- Going through a file record by record.
-use Rattle.std.proofs.Common.{◌≡◌, ℕ, zero, suc, ◌+◌, ◌-◌, ◌^◌, ◌<◌, ◌≤◌, Bool, cond, ltb, List, [], ◌∷◌, ◌++◌, length, drop, sym, refl, ap, ◌∙◌, add-zero, add_assoc, zero-add, arith}
+use Rattle.std.proofs.Common.{◌≡◌, ℕ, zero, suc, ◌+◌, ◌^◌, ◌<◌, ◌≤◌, cond, ltb, List, [], ◌∷◌, ◌++◌, length, drop, sym, refl, ap, ◌∙◌, add-zero, add_assoc, zero-add, arith}
 use Rattle.std.proofs.lemmas.List.{append-nil, append_assoc, length-append, length-drop, drop-drop, nil_from_length}
 use Rattle.std.proofs.lemmas.Bool.{lt-ltb, le-ltb, cond-true, cond-false}
 use Rattle.model.specs.declared.Entry.{Entry}
@@ -7,7 +7,7 @@ use Rattle.journal.specs.declared.types.Fault.{Fault}
 use Rattle.journal.specs.declared.types.Fault.TheVariants.{WrongNumber}
 use Rattle.journal.specs.Parsing.{Reading, whole, short, faulty, parsed}
 use Rattle.journal.specs.Files.{Opened, good, bad, after, onward, turned, replayed, behind}
-use Rattle.journal.proofs.Reading.{Within, whole-within, nothing_short}
+use Rattle.journal.proofs.Reading.{whole-within, nothing_short}
 
 onward-same : (n : ℕ) (p : Reading) (f g : ℕ → Opened) → ((es : List Entry) (k : ℕ) → p ≡ whole es k → f k ≡ g k) → onward n p f ≡ onward n p g
 onward-same n (whole es k) f g h = ap (λ r. cond (ltb (suc n) (2 ^ 32)) (after es k r) (bad 0 WrongNumber)) (h es k refl)

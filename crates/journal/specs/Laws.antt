@@ -2,11 +2,10 @@
 use Rattle.std.specs.Prelude.{◌≡◌, ℕ, ◌+◌, ◌^◌, ◌<◌, List, [], ◌∷◌, ◌++◌, length, take, drop, replicate}
 use Rattle.std.specs.List.{AllByRecursion as All}
 use Rattle.model.specs.declared.Entry.{Entry}
-use Rattle.journal.specs.declared.types.Fault.{Fault}
 use Rattle.journal.specs.declared.types.Fault.TheVariants.{UnknownKind, WrongNumber, TooManyWrites, KeyOutOfBounds}
 use Rattle.journal.specs.Records.{record_of, FineCommit}
-use Rattle.journal.specs.Parsing.{Reading, whole, short, faulty, parsed}
-use Rattle.journal.specs.Files.{file_from, file_of, Opened, good, bad, replayed, opened, whole_in, behind, on_good}
+use Rattle.journal.specs.Parsing.{whole, short, faulty, parsed}
+use Rattle.journal.specs.Files.{file_from, file_of, good, bad, replayed, opened, whole_in, behind, on_good}
 
 -- commits that can be: never more than 4,294,967,295
 abbrev pub FineCommits : List (List Entry) → Type 0

@@ -1,4 +1,6 @@
 // Commit records as bytes: written into lent memory, gathered, and read again.
+#![tactic(auto)]
+
 mod files;
 mod gather;
 mod laws;

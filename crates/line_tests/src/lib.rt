@@ -1,4 +1,6 @@
 // Tests of the lines: a table of lines with what they ask for, and inputs cut in two.
+#![tactic(auto)]
+
 #[cfg(test)]
 mod cases;
 
@@ -65,7 +67,7 @@ mod tests {
     fn cut_anywhere(rt: HostRuntime) -> Result<(), Fail> {
         for at in 0..INPUT.len() + 1 {
             let requests = requests_of(rt.alloc(), &INPUT[0..at], &INPUT[at..])?;
-            assert!(rt; requests.as_slice() == &ASKED);
+            assert!(rt; requests.as_slice() == ASKED.as_slice());
         }
         Ok(())
     }
@@ -85,7 +87,8 @@ mod tests {
         let text = long_line(rt.alloc(), 1024)?;
         let requests = requests_of(rt.alloc(), &text, b"show")?;
         assert!(rt;
-            requests.as_slice() == &[Request::Whole(Call::Show), Request::Whole(Call::Show)]
+            requests.as_slice()
+                == [Request::Whole(Call::Show), Request::Whole(Call::Show)].as_slice()
         );
         Ok(())
     }
@@ -94,7 +97,9 @@ mod tests {
     fn too_long(rt: HostRuntime) -> Result<(), Fail> {
         let text = long_line(rt.alloc(), 1025)?;
         let requests = requests_of(rt.alloc(), &text, b"show")?;
-        assert!(rt; requests.as_slice() == &[Request::Unknown, Request::Whole(Call::Show)]);
+        assert!(rt;
+            requests.as_slice() == [Request::Unknown, Request::Whole(Call::Show)].as_slice()
+        );
         Ok(())
     }
 }

@@ -1,12 +1,11 @@
 -- Words of digits, and the decimal digits of a number.
-use Rattle.std.proofs.Common.{◌≡◌, ℕ, suc, ◌+◌, ◌-◌, ◌*◌, ◌^◌, ◌<◌, ◌≤◌, min, Bool, true, false, cond, ◌&&◌, ◌||◌, eqb, leb, List, [], ◌∷◌, ◌++◌, length, Some, None, decimal, Option, sym, refl, ap, ◌∙◌, arith, rules, eq-eqb}
-use borrow.Author.Tests.{apart_eqb}
-use Rattle.std.proofs.lemmas.Bool.{and_parts, and_cases, or_from, leb-true, cond-true, cond-false}
+use Rattle.std.proofs.Common.{◌≡◌, ℕ, ◌+◌, ◌-◌, ◌*◌, ◌^◌, ◌<◌, ◌≤◌, min, Bool, true, false, cond, ◌&&◌, leb, List, [], ◌∷◌, length, Some, None, decimal, refl, ap, ◌∙◌, arith, rules}
+use Rattle.std.proofs.lemmas.Bool.{and_parts, or_from, leb-true}
 use Rattle.std.proofs.lemmas.Str.Parse.{IsNumeralModel, numerals_by_fold, tells_all_ascii_digits}
 use Rattle.std.proofs.lemmas.Fmt.{digits_decimal, digits_value-decimal, decimal_nonempty}
 use Rattle.std.specs.Str.{all_ascii_digits}
 use Rattle.model.specs.Lists.{any}
-use Rattle.lines.specs.Numbers.{digit, more, and_then, digits, numeral, narrowed}
+use Rattle.lines.specs.Numbers.{digit, and_then, digits, numeral}
 use Rattle.lines.specs.Laws.{value_from, value_of, Number}
 use Rattle.lines.proofs.Scan.{numeral_is}
 

@@ -1,5 +1,5 @@
 -- Every answer is nothing or one line.
-use Rattle.std.proofs.Common.{◌≡◌, ℕ, ◌^◌, ◌<◌, ◌≤◌, Bool, true, false, ◌||◌, eqb, List, [], ◌∷◌, ◌++◌, vec_items, decimal, sym, refl, ap, ◌∙◌, append_assoc, arith}
+use Rattle.std.proofs.Common.{◌≡◌, ℕ, ◌^◌, ◌<◌, Bool, true, false, eqb, List, [], ◌∷◌, ◌++◌, vec_items, decimal, sym, refl, append_assoc, arith}
 use borrow.Author.Tests.{apart_eqb}
 use Rattle.std.specs.List.{AllByRecursion as All}
 use Rattle.model.specs.Lists.{any}
@@ -7,7 +7,6 @@ use Rattle.model.specs.Refusals.{number_of}
 use Rattle.model.specs.declared.Entry.{Entry}
 use Rattle.model.specs.declared.Refusal.{Refusal}
 use Rattle.model.specs.declared.Refusal.TheVariants.{OutOfBounds, SlotState, TooMany, WriteConflict, Pivot, NoRoom, LastCommit, BadFile, BadLine, NoMemory}
-use Rattle.model.specs.declared.Answer.{Answer}
 use Rattle.model.specs.declared.Answer.TheVariants.{Done, Found, Committed, Shown, Refused}
 use Rattle.lines.specs.Said.{pair, pairs}
 use Rattle.lines.specs.Laws.{OneLine}

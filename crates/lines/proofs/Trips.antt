@@ -1,5 +1,5 @@
 -- What a line asks for by its words.
-use Rattle.std.proofs.Common.{◌≡◌, ℕ, zero, suc, ◌+◌, ◌-◌, ◌^◌, ◌<◌, ◌≤◌, min, Bool, true, false, cond, not, ◌&&◌, ◌||◌, eqb, ltb, List, [], ◌∷◌, ◌++◌, length, get_or, is_some, Some, None, codes, decimal, Option, sym, refl, ap, ◌∙◌, arith, lt-ltb}
+use Rattle.std.proofs.Common.{◌≡◌, ℕ, zero, suc, ◌+◌, ◌-◌, ◌^◌, ◌<◌, ◌≤◌, min, Bool, true, false, cond, not, ◌&&◌, ◌||◌, eqb, List, [], ◌∷◌, ◌++◌, length, get_or, is_some, Some, None, decimal, Option, sym, refl, ap, ◌∙◌, arith, lt-ltb}
 use borrow.Author.Tests.{apart_eqb, both_ways}
 use Rattle.std.proofs.lemmas.Slice.Eq.{bytes_eq-Decides}
 use Rattle.std.proofs.lemmas.Bool.{or_parts, or_from, eqb-false, cond-false}
@@ -11,11 +11,11 @@ use Rattle.model.specs.declared.Level.TheVariants.{Latest, Snapshot, Serial}
 use Rattle.model.specs.declared.Call.{Call}
 use Rattle.model.specs.declared.Call.TheVariants.{Begin, Read, Write, Commit, Abort, Sweep, Sync, Stop, Show}
 use Rattle.model.specs.declared.Request.{Request}
-use Rattle.model.specs.declared.Request.TheVariants.{Whole, Faulty, Slotless, Unknown}
+use Rattle.model.specs.declared.Request.TheVariants.{Whole, Faulty, Unknown}
 use Rattle.lines.specs.Words.{blank, unended}
 use Rattle.lines.specs.Numbers.{numeral, narrowed, fitting}
-use Rattle.lines.specs.Requests.{missing, level_of, judged, part, plain, slot_only, begin_of, read_of, write_of, asked, parsed}
-use Rattle.lines.specs.Laws.{ended, words_from, words_of, line_words, names, NotNamed, NoCall, level_name, spelt, spaced, Sayable, RoundTrip}
+use Rattle.lines.specs.Requests.{missing, level_of, judged, part, plain, slot_only, begin_of, read_of, write_of, asked}
+use Rattle.lines.specs.Laws.{ended, words_from, words_of, names, NoCall, level_name, spelt, spaced, Sayable, RoundTrip}
 use Rattle.lines.proofs.Scan.{no_return}
 use Rattle.lines.proofs.Splits.{splits, asked_of, parsed-by}
 use Rattle.lines.proofs.Digits.{numeral-decimal, narrow_small, any-decimal, some_decimal}

@@ -1,20 +1,19 @@
 -- Where nothing is wrong with a line, its words ask for the call.
-use Rattle.std.proofs.Common.{◌≡◌, ℕ, zero, suc, ◌+◌, ◌^◌, ◌<◌, ◌≤◌, min, Bool, true, false, cond, not, ◌&&◌, ◌||◌, eqb, ltb, List, [], ◌∷◌, ◌++◌, length, get_or, is_some, Some, None, codes, Option, sym, refl, ap, ◌∙◌, subst, arith, ltb-true}
+use Rattle.std.proofs.Common.{◌≡◌, ℕ, zero, suc, ◌+◌, ◌^◌, ◌<◌, ◌≤◌, min, Bool, true, false, cond, not, ◌&&◌, ◌||◌, List, [], ◌∷◌, ◌++◌, length, get_or, is_some, Some, None, codes, Option, sym, refl, ap, ◌∙◌, subst, arith, ltb-true}
 use borrow.Author.Tests.{both_ways}
 use Rattle.std.proofs.lemmas.Slice.Eq.{bytes_eq-Decides}
 use Rattle.std.proofs.lemmas.Bool.{and_parts, not-true, eqb-true, eqb-false}
 use Rattle.std.specs.List.{AllByRecursion as All}
 use Rattle.std.specs.Str.{bytes_eq, all_ascii_digits}
-use Rattle.model.specs.declared.Level.{Level}
 use Rattle.model.specs.declared.Level.TheVariants.{Latest, Snapshot, Serial}
 use Rattle.model.specs.declared.Call.{Call}
 use Rattle.model.specs.declared.Call.TheVariants.{Begin, Read, Write, Commit, Abort, Sweep, Sync, Stop, Show}
 use Rattle.model.specs.declared.Request.{Request}
-use Rattle.model.specs.declared.Request.TheVariants.{Whole, Faulty, Slotless, Unknown}
+use Rattle.model.specs.declared.Request.TheVariants.{Whole, Unknown}
 use Rattle.lines.specs.Words.{blank}
 use Rattle.lines.specs.Numbers.{numeral, narrowed, fitting}
 use Rattle.lines.specs.Requests.{missing, level_of, judged, part, plain, slot_only, begin_of, read_of, write_of}
-use Rattle.lines.specs.Laws.{ended, words_from, words_of, line_words, names, value_of, Says, SaysLevel, Asks, OnlyWhole}
+use Rattle.lines.specs.Laws.{ended, words_from, line_words, names, value_of, Says, SaysLevel, Asks, OnlyWhole}
 use Rattle.lines.proofs.Splits.{asked_of, parsed-by}
 use Rattle.lines.proofs.Digits.{numbers}
 use Rattle.lines.proofs.Trips.{pick, each}

@@ -1,5 +1,5 @@
 -- What the reading of lines and the writing of answers come to, in words of their own.
-use Rattle.std.specs.Prelude.{◌≡◌, ℕ, ◌+◌, ◌-◌, ◌*◌, ◌^◌, ◌<◌, min, Bool, true, false, cond, List, [], ◌∷◌, ◌++◌, length, Some, None, vec_items, codes, decimal, Option, ◌≢◌, nat_eq, slice_index_or}
+use Rattle.std.specs.Prelude.{◌≡◌, ℕ, ◌+◌, ◌-◌, ◌*◌, ◌^◌, ◌<◌, min, true, false, cond, List, [], ◌∷◌, ◌++◌, length, Some, None, vec_items, codes, decimal, Option, ◌≢◌, nat_eq, slice_index_or}
 use Rattle.std.specs.List.{AllByRecursion as All}
 use Rattle.std.specs.Str.{all_ascii_digits}
 use Rattle.model.specs.Lists.{any}
@@ -10,7 +10,6 @@ use Rattle.model.specs.declared.Call.TheVariants.{Begin, Read, Write, Commit, Ab
 use Rattle.model.specs.declared.Entry.{Entry}
 use Rattle.model.specs.declared.Answer.{Answer}
 use Rattle.model.specs.declared.Answer.TheVariants.{Done, Found, Committed, Shown, Refused}
-use Rattle.model.specs.declared.Request.{Request}
 use Rattle.model.specs.declared.Request.TheVariants.{Whole, Unknown}
 use Rattle.lines.specs.Words.{blank, unended}
 use Rattle.lines.specs.Numbers.{numeral}

@@ -1,4 +1,6 @@
 // The conversation: bytes of input to requests, and answers to text.
+#![tactic(auto)]
+
 mod buffer;
 mod bytes;
 mod number;

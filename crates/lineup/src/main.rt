@@ -1,4 +1,6 @@
 // The program: lines on standard input, answers on standard output, and at the end the serial order of the commits.
+#![tactic(auto)]
+
 mod desk;
 
 use anyhow::anyhow;

@@ -1,5 +1,5 @@
 -- The versions of one key, and what a sweep takes away.
-use Rattle.std.specs.Prelude.{◌≡◌, ℕ, suc, ◌+◌, ◌≤◌, Bool, true, false, cond, List, [], ◌∷◌, nat_le, nat_lt}
+use Rattle.std.specs.Prelude.{ℕ, suc, ◌+◌, Bool, false, cond, List, [], ◌∷◌, nat_le, nat_lt}
 use Rattle.model.specs.declared.Entry.{Entry}
 use Rattle.model.specs.Transactions.{Txn, empty, names, puts}
 

@@ -1,4 +1,6 @@
 // The serial order of commits.
+#![tactic(auto)]
+
 mod laws;
 mod line;
 mod past;

@@ -1,5 +1,5 @@
 -- What is kept of the commits, call by call.
-use Rattle.std.proofs.Common.{◌≡◌, ℕ, zero, suc, ◌<◌, true, false, ◌⊎◌, List, [], ◌∷◌, ◌++◌, map, length, Some, Ok, Err, vec_items, Result, Vec, sym, refl, ap, ◌∙◌, subst, inl, inr, arith}
+use Rattle.std.proofs.Common.{◌≡◌, ℕ, zero, suc, true, false, List, [], ◌∷◌, ◌++◌, map, Some, Ok, Err, vec_items, Result, Vec, sym, refl, ap, ◌∙◌, subst, inl, inr, arith}
 use Rattle.std.proofs.lemmas.List.{map_push}
 use Rattle.model.specs.declared.Answer.{Answer}
 use Rattle.model.specs.declared.Call.{Call}
@@ -10,7 +10,6 @@ use Rattle.model.specs.declared.Refusal.{Refusal}
 use Rattle.model.specs.declared.Refusal.TheVariants.{NoMemory}
 use Rattle.model.specs.declared.Request.TheVariants.{Whole, Faulty}
 use Rattle.model.specs.Transactions.{Txn, is_serial}
-use Rattle.conflicts.specs.Laws.{nth}
 use Rattle.order.specs.declared.past.Past.{Past}
 use Rattle.order.specs.Order.{line, AllSerial}
 use Rattle.order.specs.Past.{past_of, as_serial, LineTold}
@@ -18,8 +17,8 @@ use Rattle.history.specs.Engine.{Life, Engine, txns, count, slot_at, refusal_of,
 use Rattle.history.specs.Promise.{SerialRun}
 use Rattle.history.proofs.Promising.{promises}
 use Rattle.store.specs.declared.store.Store.{Store}
-use Rattle.store.specs.Calls.{Is, reply_of, may_lack, serial_in, Answers}
-use Rattle.store.specs.Answers.{ready_of, fault_refusal, AnswersTo}
+use Rattle.store.specs.Calls.{Is, reply_of, serial_in, Answers}
+use Rattle.store.specs.Answers.{ready_of, AnswersTo}
 use Rattle.serial_runs.specs.declared.runs.Runs.{Runs}
 use Rattle.serial_runs.specs.Requests.{begins_other}
 use Rattle.serial_runs.specs.Standing.{commits, bad_line, OnlySerial, Stands, CallDone, InLine}

@@ -1,5 +1,5 @@
 -- What is asked where there are only Serials and no file.
-use Rattle.std.specs.Prelude.{◌≡◌, Bool, true, false, cond, not, Some, None, Option}
+use Rattle.std.specs.Prelude.{◌≡◌, Bool, false, cond, not, Some, None, Option}
 use Rattle.model.specs.declared.Call.{Call}
 use Rattle.model.specs.declared.Call.TheVariants.{Begin, Read, Write, Commit, Abort, Sweep, Sync, Stop, Show}
 use Rattle.model.specs.declared.Level.{Level}

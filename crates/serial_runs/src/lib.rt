@@ -1,4 +1,6 @@
 // Runs of Serials alone, with what is needed for their serial order.
+#![tactic(auto)]
+
 mod requests;
 mod runs;
 mod text;

@@ -1,5 +1,5 @@
 -- The file of an engine, cut at or behind what was synced.
-use Rattle.std.proofs.Common.{◌≡◌, ℕ, suc, ◌+◌, ◌-◌, ◌≤◌, cond, leb, List, [], ◌∷◌, ◌++◌, map, length, take, Some, None, Option, sym, refl, ap, ◌∙◌, subst, arith, ltb-true, le-leb, leb-false}
+use Rattle.std.proofs.Common.{◌≡◌, ℕ, suc, ◌-◌, ◌≤◌, cond, leb, List, [], ◌∷◌, ◌++◌, map, length, take, Some, None, Option, sym, refl, ap, ◌∙◌, subst, arith, ltb-true, le-leb, leb-false}
 use lib.ListN.{length-map}
 use Rattle.std.proofs.lemmas.List.{take-map, length-take-le, length_push}
 use Rattle.std.proofs.ByRecursion.{All-push, All-take, All-map}

@@ -1,5 +1,5 @@
 -- The verdict on a commit, by the engine that the tables are.
-use Rattle.std.proofs.Common.{◌≡◌, ℕ, ◌+◌, ◌<◌, ◌≤◌, Bool, true, false, cond, not, ltb, leb, List, length, Some, None, Option, sym, refl, ap, ◌∙◌, subst, arith, le-ltb, lt-ltb, leb-false, leb-true}
+use Rattle.std.proofs.Common.{◌≡◌, ℕ, ◌+◌, Bool, true, false, not, ltb, leb, List, Some, None, Option, sym, refl, ap, ◌∙◌, subst, arith, le-ltb, lt-ltb, leb-false, leb-true}
 use lib.ListN.{length-map}
 use borrow.Author.Tests.{both_ways}
 use Rattle.model.specs.declared.Entry.{Entry}
@@ -10,12 +10,11 @@ use Rattle.model.specs.Commits.{verdict}
 use Rattle.model.specs.Versions.{keys_of}
 use Rattle.transactions.specs.declared.slot.Slot.{Slot}
 use Rattle.versions.specs.declared.store.Versions.{Versions}
-use Rattle.versions.specs.Store.{spaces}
 use Rattle.versions.specs.History.{ConflictBy, RoomBy}
 use Rattle.conflicts.specs.declared.window.Window.{Window}
 use Rattle.conflicts.specs.Held.{Next, VerdictTold}
 use Rattle.conflicts.proofs.Allowing.{allowed-timely, no_pivot}
-use Rattle.history.specs.Engine.{Life, Engine, txn_of, txns, count, slot_at, version_count, when, first_of, commit_refusal}
+use Rattle.history.specs.Engine.{Life, Engine, txns, count, slot_at, version_count, when, first_of, commit_refusal}
 use Rattle.history.specs.Sound.{Sound}
 use Rattle.history.proofs.Refusing.{neither, when-not}
 use Rattle.store.specs.Fits.{Fits}

@@ -1,5 +1,5 @@
 -- What goes to the journal.
-use Rattle.std.proofs.Common.{◌≡◌, ℕ, ◌+◌, ◌-◌, ◌*◌, ◌<◌, ◌≤◌, Bool, true, false, cond, not, ◌&&◌, ◌||◌, ltb, leb, ◌⊎◌, List, [], ◌∷◌, ◌++◌, map, length, drop, Some, None, Option, sym, refl, ap, ◌∙◌, subst, inl, inr, arith}
+use Rattle.std.proofs.Common.{◌≡◌, ℕ, ◌+◌, ◌-◌, ◌*◌, ◌<◌, ◌≤◌, Bool, true, false, cond, not, ltb, leb, List, [], ◌∷◌, ◌++◌, map, length, drop, Some, sym, refl, ap, ◌∙◌, subst, inl, arith}
 use lib.ListN.{length-map}
 use Rattle.std.proofs.lemmas.List.{append-nil, drop_all, drop_at, map_push, take_all}
 use Rattle.std.proofs.lemmas.Bool.{and_from, or_right, or_parts, or_from, lt-ltb, le-ltb, leb-true, leb-false, le-leb, both_ways}
@@ -16,7 +16,7 @@ use Rattle.journal.specs.Held.{held_of, room_of, Appended}
 use Rattle.journal.specs.Files.{file_from, file_of}
 use Rattle.journal.specs.Records.{record_of, strays, fits, FineCommit}
 use Rattle.journal.proofs.Joins.{file_push}
-use Rattle.history.specs.Engine.{Life, Engine, txn_of, txns, count, slot_at, performed, replied, on_begin, on_read, on_write, refusal_of, Reply}
+use Rattle.history.specs.Engine.{Life, Engine, txn_of, txns, count, slot_at, performed, replied, on_begin, on_read, on_write}
 use Rattle.history.specs.Pasts.{writes_of}
 use Rattle.history.specs.Sound.{Sound}
 use Rattle.history.proofs.Lists.{none_or_some}

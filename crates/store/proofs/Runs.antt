@@ -1,7 +1,6 @@
 -- Slots, and what runs in them.
 use Rattle.std.proofs.Common.{◌≡◌, ℕ, zero, suc, ◌+◌, ◌<◌, ◌≤◌, Bool, true, false, cond, ltb, leb, List, [], ◌∷◌, map, length, get_or, drop, set, Some, None, Option, sym, refl, ap, ◌∙◌, arith, le-ltb, lt-ltb, leb-false, leb-true}
-use lib.ListN.{length-map}
-use Rattle.std.proofs.lemmas.List.{at_drop_more, at_drop_all, drop-map, get_or-map, get_or_past, map-set}
+use Rattle.std.proofs.lemmas.List.{at_drop_more, at_drop_all, get_or-map, map-set}
 use Rattle.model.specs.declared.Call.{Call}
 use Rattle.model.specs.declared.Level.{Level}
 use Rattle.model.specs.declared.Refusal.{Refusal}

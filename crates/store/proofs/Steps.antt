@@ -1,12 +1,12 @@
 -- What each step of the tables is, by the engine that they are.
-use Rattle.std.proofs.Common.{◌≡◌, ℕ, suc, ◌+◌, ◌<◌, ◌≤◌, Bool, true, false, cond, not, ltb, leb, List, [], ◌∷◌, ◌++◌, map, length, get_or, take, set, replicate, Some, None, Ok, Err, Option, Result, sym, refl, ap, ◌∙◌, subst, ⊎_elim, arith, lt-ltb, leb-false}
+use Rattle.std.proofs.Common.{◌≡◌, ℕ, ◌+◌, ◌≤◌, Bool, true, false, cond, ltb, List, [], ◌∷◌, ◌++◌, map, length, get_or, take, set, replicate, Some, None, Option, sym, refl, ap, ◌∙◌, subst, ⊎_elim, arith, lt-ltb, leb-false}
 use lib.ListN.{length-map}
 use lib.Seq.{set_out}
 use Rattle.std.proofs.lemmas.List.{map-set, map_push, length_push, take_all}
 use Rattle.model.specs.declared.Counts.{Counts}
 use Rattle.model.specs.declared.Entry.{Entry}
 use Rattle.model.specs.declared.Refusal.{Refusal}
-use Rattle.model.specs.declared.Call.TheVariants.{Read, Write, Commit, Sweep, Sync, Stop, Show}
+use Rattle.model.specs.declared.Call.TheVariants.{Read, Write, Commit, Sweep, Sync, Show}
 use Rattle.model.specs.declared.Level.{Level}
 use Rattle.model.specs.declared.Refusal.TheVariants.{TooMany, OutOfBounds, NoRoom}
 use Rattle.model.specs.Transactions as rules
@@ -21,13 +21,13 @@ use Rattle.versions.specs.History as versions
 use Rattle.conflicts.specs.declared.window.Window.{Window}
 use Rattle.conflicts.specs.Held as conflicts
 use Rattle.conflicts.specs.Marks.{marks_of}
-use Rattle.history.specs.Engine.{Life, Engine, txn_of, txns, count, slot_at, with_slot, sweep_floor, floor_in, performed, replied, restarted, on_begin, on_read, on_write, read_reply, found, read_by, written_by, version_count, busy_in, refusal_of, slot_refusal, commit_refusal, busy_refusal, Reply, shown}
+use Rattle.history.specs.Engine.{Life, Engine, txn_of, txns, count, slot_at, with_slot, sweep_floor, floor_in, performed, replied, restarted, on_begin, on_read, on_write, read_reply, found, read_by, written_by, version_count, busy_in, refusal_of, commit_refusal, busy_refusal, shown}
 use Rattle.history.specs.Sound.{Sound}
 use Rattle.history.proofs.Refusing.{goes_through, when-not}
 use Rattle.history.proofs.Lists.{set_cases, none-there, none_some}
 use Rattle.history.proofs.Floors.{floor-below, floor-counts, floor-least}
-use Rattle.history.proofs.Sounding.{sweep_rises, sweep-within}
-use Rattle.store.specs.Fits.{bare, Watches, Fits, SerialsFrom, counts, floor_of, busy_of}
+use Rattle.history.proofs.Sounding.{sweep_rises}
+use Rattle.store.specs.Fits.{bare, Fits, counts, floor_of, busy_of}
 use Rattle.store.specs.Calls.{entered}
 use Rattle.store.proofs.Judging.{next}
 use Rattle.store.proofs.Runs.{zero_one, slot-bare, floor-bare, busy_bare}

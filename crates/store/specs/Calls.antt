@@ -1,20 +1,18 @@
 -- What each method of the store does, by the engine as the rules have it.
-use Rattle.std.specs.Prelude.{◌≡◌, ℕ, ◌-◌, ◌<◌, ◌≤◌, Bool, true, false, cond, ◌||◌, ◌⊎◌, List, [], ◌∷◌, ◌++◌, map, length, take, drop, Some, None, Ok, Err, vec_items, Option, Result, nat_lt, slice_set}
+use Rattle.std.specs.Prelude.{◌≡◌, ℕ, ◌-◌, ◌<◌, ◌≤◌, Bool, true, false, ◌||◌, ◌⊎◌, List, [], ◌∷◌, ◌++◌, map, length, take, drop, Some, None, Ok, Err, vec_items, Option, Result, nat_lt, slice_set}
 use Rattle.std.specs.List.{AllByRecursion as All}
 use Rattle.model.specs.declared.Answer.{Answer}
 use Rattle.model.specs.declared.Answer.TheVariants.{Done, Found, Committed, Shown, Refused}
 use Rattle.model.specs.declared.Call.{Call}
 use Rattle.model.specs.declared.Call.TheVariants.{Begin, Read, Write, Commit, Abort, Sweep, Sync, Stop, Show}
 use Rattle.model.specs.declared.Refusal.{Refusal}
-use Rattle.model.specs.declared.Refusal.TheVariants.{OutOfBounds, BadLine, NoMemory}
-use Rattle.model.specs.declared.Request.{Request}
-use Rattle.model.specs.declared.Request.TheVariants.{Whole, Faulty, Slotless, Unknown}
+use Rattle.model.specs.declared.Refusal.TheVariants.{NoMemory}
 use Rattle.model.specs.declared.Counts.{Counts}
 use Rattle.model.specs.declared.Entry.{Entry}
 use Rattle.model.specs.Transactions as rules
 use Rattle.model.specs.Transactions.{Txn, is_serial, puts, after, empty, moment}
 use Rattle.transactions.specs.Slots.{Run, going, run_of}
-use Rattle.history.specs.Engine.{Life, Engine, txns, count, slot_at, out_of_bounds, commit_refusal, slot_refusal, refusal_of, performed, replied, called, reply_to, Reply, done, found, committed, shown, refused, Event, Called, led}
+use Rattle.history.specs.Engine.{Life, Engine, txns, count, slot_at, commit_refusal, slot_refusal, refusal_of, performed, replied, reply_to, Reply, done, found, committed, shown, refused, Event, Called, led}
 use Rattle.history.specs.Pasts.{writes_of}
 use Rattle.history.specs.Sound.{Sound}
 use Rattle.journal.specs.declared.gather.Journal.{Journal}

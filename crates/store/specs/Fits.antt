@@ -1,5 +1,5 @@
 -- When the tables of the store are those of an engine as the rules have it.
-use Rattle.std.specs.Prelude.{◌≡◌, ℕ, ◌+◌, ◌≤◌, min, Bool, true, false, cond, not, List, [], ◌∷◌, map, Some, None, Option}
+use Rattle.std.specs.Prelude.{◌≡◌, ℕ, ◌+◌, ◌≤◌, min, Bool, true, cond, not, List, [], ◌∷◌, map, Some, None, Option}
 use Rattle.model.specs.declared.Level.{Level}
 use Rattle.model.specs.Transactions.{is_serial, is_latest}
 use Rattle.transactions.specs.declared.slot.Slot.{Slot}

@@ -1,4 +1,6 @@
 // The engine: sixteen slots over the versions and the check at commit.
+#![tactic(auto)]
+
 mod calls;
 mod opening;
 mod reader;

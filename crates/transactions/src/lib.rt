@@ -1,4 +1,6 @@
 // Transactions: what one has read and written so far, kept in arrays, and what its reads look at.
+#![tactic(auto)]
+
 mod looks;
 mod noted;
 mod slot;

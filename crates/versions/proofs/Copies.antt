@@ -1,8 +1,8 @@
 -- What a sweep leaves is no more than there was.
-use Rattle.std.proofs.Common.{◌≡◌, ℕ, ◌+◌, ◌<◌, ◌≤◌, Bool, true, false, cond, ltb, List, [], ◌∷◌, length, sym, refl, ap, ◌∙◌, inl, inr, arith}
+use Rattle.std.proofs.Common.{◌≡◌, ℕ, ◌+◌, ◌<◌, ◌≤◌, Bool, true, false, cond, ltb, List, [], ◌∷◌, length, refl, ap, inl, inr, arith}
 use Rattle.std.proofs.lemmas.Bool.{cases_lt}
 use Rattle.model.specs.Versions.{Version, swept}
-use Rattle.versions.specs.Chain.{sum_to, total}
+use Rattle.versions.specs.Chain.{total}
 use Rattle.versions.proofs.Sums.{sum_fits}
 
 swept_shorter : (floor : ℕ) (vs : List Version) → length (swept floor vs) ≤ length vs

@@ -1,7 +1,6 @@
 -- A version more at the next free place, and no versions at all: what is listed then, and that the words stay sound.
-use Rattle.std.proofs.Common.{◌≡◌, ℕ, zero, suc, ◌+◌, ◌-◌, ◌<◌, ◌≤◌, ◌≢◌, List, [], ◌∷◌, length, get_or, set, sym, refl, ap, ◌∙◌, subst, inl, inr, add-one, arith, length-set, get_or-set_other, get_or-set_same, eq-eqb, ne_eqb}
+use Rattle.std.proofs.Common.{◌≡◌, ℕ, zero, suc, ◌+◌, ◌<◌, ◌≤◌, ◌≢◌, List, [], ◌∷◌, length, get_or, set, sym, refl, ap, ◌∙◌, subst, inl, inr, add-one, arith, length-set, get_or-set_other, get_or-set_same, eq-eqb, ne_eqb}
 use Rattle.std.proofs.lemmas.Bool.{cases_lt, cases_eq}
-use Rattle.model.specs.Versions.{Version}
 use Rattle.versions.specs.Chain.{Links, links, version_at, walk, chain, listed, total, Fits, Falls, Tops, Sound, added}
 use Rattle.versions.proofs.Walks.{walk_none, chain-none, chain-at}
 use Rattle.versions.proofs.Sums.{sum_one, total-none}

@@ -1,5 +1,5 @@
 -- A search through writes, from a place on.
-use Rattle.std.proofs.Common.{◌≡◌, ℕ, zero, suc, ◌+◌, ◌<◌, ◌≤◌, Bool, true, false, ◌||◌, List, [], ◌∷◌, length, get_or, drop, sym, refl, ap, ◌∙◌, subst, add-one, arith, drop-cons}
+use Rattle.std.proofs.Common.{◌≡◌, ℕ, zero, suc, ◌+◌, ◌<◌, ◌≤◌, Bool, true, false, List, [], ◌∷◌, length, get_or, drop, sym, subst, add-one, arith, drop-cons}
 use lib.Seq.{drop-nil}
 use Rattle.std.proofs.lemmas.Bool.{or_parts}
 use Rattle.model.specs.declared.Entry.{Entry}

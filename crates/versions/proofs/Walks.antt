@@ -1,8 +1,8 @@
 -- Laws of walks along links that lead to lower places.
-use Rattle.std.proofs.Common.{◌≡◌, ℕ, zero, suc, ◌+◌, ◌<◌, ◌≤◌, false, leb, List, [], ◌∷◌, length, get_or, sym, refl, ap, ◌∙◌, inl, inr, arith, le-ltb, lt-ltb}
+use Rattle.std.proofs.Common.{◌≡◌, ℕ, zero, suc, ◌<◌, ◌≤◌, false, leb, [], ◌∷◌, length, get_or, sym, refl, ap, ◌∙◌, inl, inr, arith, le-ltb, lt-ltb}
 use lib.ListN.{get_or-eq_default}
 use Rattle.std.proofs.lemmas.Bool.{cases_lt}
-use Rattle.model.specs.Versions.{Version, shown, swept, newer}
+use Rattle.model.specs.Versions.{shown, swept, newer}
 use Rattle.versions.specs.Chain.{Links, version_at, walk, chain, listed, Falls, Sound}
 
 module _ (w : Links) where

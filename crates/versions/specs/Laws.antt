@@ -4,7 +4,7 @@ use Rattle.model.specs.declared.Entry.{Entry}
 use Rattle.model.specs.Lists.{any}
 use Rattle.model.specs.Transactions.{Txn, empty, after, names}
 use Rattle.model.specs.Commits.{Commit, commits, unseen, wrote_since}
-use Rattle.model.specs.Versions.{Version, committed, versions_from, versions, shown, swept, newer}
+use Rattle.model.specs.Versions.{Version, committed, versions, shown, swept, newer}
 
 -- a commit that somebody who began with b did not see wrote the key
 abbrev pub written_since : ℕ → ℕ → List Txn → Bool

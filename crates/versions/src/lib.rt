@@ -1,4 +1,6 @@
 // The versions of all keys, latest first, in lent slices of words linked by place.
+#![tactic(auto)]
+
 mod chains;
 mod laws;
 mod spare;

@@ -1,12 +1,12 @@
-use Rattle.std.proofs.Common.{◌≡◌, ℕ, suc, ◌+◌, ◌-◌, ◌*◌, ◌^◌, ◌<◌, ◌≤◌, List, length, drop, sym, refl, ap, ◌∙◌, subst, arith}
+use Rattle.std.proofs.Common.{◌≡◌, ℕ, ◌+◌, ◌^◌, ◌<◌, ◌≤◌, List, length, drop, sym, ap, ◌∙◌, arith}
 use Rattle.std.proofs.lemmas.List.{take_rest, length-drop}
 use Rattle.model.specs.declared.Entry.{Entry}
 use Rattle.journal.specs.declared.types.Fault.TheVariants.{WrongNumber}
 use Rattle.journal.specs.declared.types.Survey.TheVariants.{Good}
-use Rattle.journal.specs.Parsing.{Reading, whole, short, parsed, outlined}
-use Rattle.journal.specs.Files.{surveyed, replayed}
-use Rattle.journal.proofs.Reading.{Within, whole-within, outline_whole, outline_bad, outline_short}
-use Rattle.journal.proofs.Replaying.{Sofar, start, at_end, at-bad, one_more, replayed-faulty, replayed-last}
+use Rattle.journal.specs.Parsing.{whole, parsed, outlined}
+use Rattle.journal.specs.Files.{surveyed}
+use Rattle.journal.proofs.Reading.{whole-within, outline_whole, outline_bad, outline_short}
+use Rattle.journal.proofs.Replaying.{start, at_end, at-bad, one_more, replayed-faulty, replayed-last}
 use Rattle.journal.proofs.Canon.{read_in}
 use Rattle.journal.proofs.files.survey.Goals as goal
 use Rattle.journal.proofs.files.survey.Goals.{In-Whole}

@@ -1,7 +1,7 @@
 use Rattle.std.proofs.Common.{◌≡◌, List, ◌++◌, length, drop, sym, ap, ◌∙◌, arith}
 use Rattle.model.specs.declared.Entry.{Entry}
-use Rattle.journal.specs.Parsing.{entries_of, Reading, whole, parsed, laid}
-use Rattle.journal.proofs.Reading.{Within, whole-within, outline_whole}
+use Rattle.journal.specs.Parsing.{entries_of, whole, parsed, laid}
+use Rattle.journal.proofs.Reading.{whole-within, outline_whole}
 use Rattle.journal.proofs.Canon.{record_in}
 use Rattle.journal.proofs.reader.decode.Goals as goal
 use Rattle.journal.proofs.reader.decode.Goals.{In-Whole}

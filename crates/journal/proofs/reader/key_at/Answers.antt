@@ -1,4 +1,4 @@
-use Rattle.std.proofs.Common.{arith, rules}
+use Rattle.std.proofs.Common.{rules}
 use Rattle.std.proofs.lemmas.List.{places}
 use Rattle.journal.specs.Parsing.{of2}
 use Rattle.journal.proofs.reader.key_at.Goals as goal

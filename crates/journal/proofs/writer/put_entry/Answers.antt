@@ -1,4 +1,4 @@
-use Rattle.std.proofs.Common.{◌≡◌, ◌+◌, refl, ap, ◌∙◌, arith}
+use Rattle.std.proofs.Common.{◌+◌, refl, ap, ◌∙◌, arith}
 use Rattle.journal.specs.Records.{written, be2, be4, entry_bytes}
 use Rattle.journal.proofs.Places.{then-written}
 use Rattle.journal.proofs.writer.put_entry.Goals as goal

@@ -1,4 +1,4 @@
-use Rattle.std.proofs.Common.{[], ◌∷◌, vec_items, codes, decimal}
+use Rattle.std.proofs.Common.{vec_items, codes, decimal}
 use Rattle.lines.specs.Said.{counts_text}
 use Rattle.lines.proofs.Joins.{onto, same_made}
 use Rattle.lines.proofs.bytes.say_counts.Goals as goal

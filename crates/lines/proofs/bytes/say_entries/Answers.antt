@@ -1,4 +1,4 @@
-use Rattle.std.proofs.Common.{◌≡◌, ℕ, false, List, [], ◌∷◌, ◌++◌, vec_items, ap, ◌∙◌, append_assoc}
+use Rattle.std.proofs.Common.{false, [], ◌∷◌, vec_items}
 use Rattle.lines.specs.Said.{pairs}
 use Rattle.lines.proofs.Joins.{pushed, joined_made}
 use Rattle.lines.proofs.Pairs.{pair_said, pairs_said}

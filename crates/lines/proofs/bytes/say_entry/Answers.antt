@@ -1,4 +1,4 @@
-use Rattle.std.proofs.Common.{◌≡◌, ℕ, List, [], ◌++◌, drop, vec_items, codes, decimal, sym, ap, ◌∙◌, append-nil}
+use Rattle.std.proofs.Common.{◌≡◌, drop, vec_items, codes, decimal, sym, ◌∙◌, append-nil}
 use Rattle.std.proofs.lemmas.Bool.{cond-true, cond-false}
 use Rattle.lines.specs.Said.{pair}
 use Rattle.lines.proofs.Joins.{onto, same_made}

@@ -1,4 +1,4 @@
-use Rattle.std.proofs.Common.{ℕ, List, [], ◌++◌, vec_items, decimal, ap, ◌∙◌, append-nil}
+use Rattle.std.proofs.Common.{vec_items, decimal, ◌∙◌, append-nil}
 use Rattle.lines.proofs.Joins.{same_made}
 use Rattle.lines.proofs.short.say_number.Goals as goal
 

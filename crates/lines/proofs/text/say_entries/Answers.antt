@@ -1,4 +1,4 @@
-use Rattle.std.proofs.Common.{◌≡◌, ℕ, false, List, [], ◌∷◌, ◌++◌, string_bytes, ap, ◌∙◌, append_assoc}
+use Rattle.std.proofs.Common.{ℕ, false, List, [], ◌∷◌, ◌++◌, string_bytes, ap, ◌∙◌, append_assoc}
 use Rattle.lines.specs.Said.{pairs}
 use Rattle.lines.proofs.Pairs.{pair_said, pairs_said, made_on}
 use Rattle.lines.proofs.text.say_entries.Goals as goal

@@ -1,4 +1,4 @@
-use Rattle.std.proofs.Common.{◌≡◌, ℕ, false, List, [], ◌∷◌, ◌++◌, string_bytes, ap, ◌∙◌, append_assoc}
+use Rattle.std.proofs.Common.{ℕ, false, List, [], ◌∷◌, ◌++◌, string_bytes, ap, ◌∙◌, append_assoc}
 use Rattle.serial_runs.specs.Text.{numerals}
 use Rattle.serial_runs.proofs.Numbers.{made_on}
 use Rattle.serial_runs.proofs.text.say_order.Goals as goal

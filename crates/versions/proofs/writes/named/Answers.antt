@@ -1,4 +1,4 @@
-use Rattle.std.proofs.Common.{ℕ, Bool, eqb, get_or, sym, refl, ◌∙◌, arith, eq-eqb, ne_eqb}
+use Rattle.std.proofs.Common.{ℕ, Bool, eqb, get_or, sym, ◌∙◌, arith, eq-eqb, ne_eqb}
 use Rattle.model.specs.declared.Entry.{Entry}
 use Rattle.versions.proofs.Searches.{none, any_here, any-past, any_end}
 use Rattle.versions.proofs.writes.named.Goals as goal

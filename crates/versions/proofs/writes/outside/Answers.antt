@@ -1,4 +1,4 @@
-use Rattle.std.proofs.Common.{◌<◌, Bool, leb, length, get_or, sym, refl, ◌∙◌, arith, le-leb}
+use Rattle.std.proofs.Common.{Bool, leb, get_or, sym, ◌∙◌, arith, le-leb}
 use borrow.Author.Tests.{lt-leb}
 use Rattle.model.specs.declared.Entry.{Entry}
 use Rattle.versions.proofs.Searches.{none, any_here, any-past, any_end}

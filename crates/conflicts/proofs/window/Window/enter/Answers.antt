@@ -1,9 +1,9 @@
-use Rattle.std.proofs.Common.{◌≡◌, ◌-◌, List, [], ◌∷◌, ◌++◌, map, length, take, drop, vec_items, sym, ap, ◌∙◌, subst, arith}
+use Rattle.std.proofs.Common.{◌≡◌, ◌-◌, [], ◌∷◌, ◌++◌, map, length, take, drop, vec_items, sym, ap, ◌∙◌, subst, arith}
 use borrow.Rule.Slice.PartMut.{put_mid, same_len_mid}
 use Rattle.std.proofs.lemmas.List.{with_items_is}
 use Rattle.transactions.specs.Transactions.{model_of}
-use Rattle.conflicts.specs.Marks.{mark_of, marks_of, remarked, new_mark, taken_in}
-use Rattle.conflicts.specs.Rising.{number_of, Rise}
+use Rattle.conflicts.specs.Marks.{mark_of, remarked, new_mark, taken_in}
+use Rattle.conflicts.specs.Rising.{Rise}
 use Rattle.conflicts.proofs.Seen.{part_is, part-back, taken-behind, numbers-taken}
 use Rattle.conflicts.proofs.window.Window.enter.Goals as goal
 use Rattle.conflicts.proofs.window.Window.enter.Goals.{After-push_reserved}

@@ -1,4 +1,4 @@
-use Rattle.std.proofs.Common.{◌≡◌, Bool, true, false, cond, sym, refl, ap, ◌∙◌, ⊎_elim}
+use Rattle.std.proofs.Common.{◌≡◌, true, false, cond, sym, refl, ap, ◌∙◌, ⊎_elim}
 use Rattle.transactions.specs.Transactions.{model_of}
 use Rattle.model.specs.Transactions.{is_serial}
 use Rattle.conflicts.specs.Marks.{marks_of, taken_in}

@@ -1,4 +1,4 @@
-use Rattle.std.proofs.Common.{◌≡◌, ◌-◌, true, false, length, take, drop, Some, None, sym, refl, ap, subst, arith}
+use Rattle.std.proofs.Common.{◌-◌, true, false, length, take, drop, Some, None, sym, refl, ap, subst, arith}
 use Rattle.std.proofs.lemmas.List.{take_rest}
 use Rattle.std.proofs.lemmas.Bool.{both_ways}
 use Rattle.journal.specs.Records.{Encoded}

@@ -1,4 +1,4 @@
-use Rattle.std.proofs.Common.{◌≡◌, arith, rules}
+use Rattle.std.proofs.Common.{arith, rules}
 use Rattle.std.proofs.lemmas.Bool.{leb-true}
 use Rattle.journal.specs.Held.{room_of}
 use Rattle.journal.proofs.Back.{none_stray}

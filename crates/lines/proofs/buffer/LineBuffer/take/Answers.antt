@@ -1,4 +1,4 @@
-use Rattle.std.proofs.Common.{◌≡◌, ℕ, ◌-◌, ◌<◌, List, [], ◌∷◌, ◌++◌, length, drop, vec_items, sym, ap, ◌∙◌, subst, append_assoc, append-nil, arith, length-drop}
+use Rattle.std.proofs.Common.{◌≡◌, ℕ, ◌-◌, ◌<◌, List, [], ◌∷◌, ◌++◌, length, drop, vec_items, sym, ap, ◌∙◌, subst, append-nil, arith, length-drop}
 use Rattle.model.specs.declared.Request.{Request}
 use Rattle.lines.specs.Held.{up_to, past, requests, pending, request_of, Stepped}
 use Rattle.lines.proofs.Gather.{past-least, scan-ended, scan_nil, rest_is, held_moved, line_taken, open_kept, took_part, cut_anywhere}

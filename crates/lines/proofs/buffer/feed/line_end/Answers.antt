@@ -1,4 +1,4 @@
-use Rattle.std.proofs.Common.{[], ◌∷◌, length, ap, arith, rules}
+use Rattle.std.proofs.Common.{[], ◌∷◌, length, ap, arith}
 use Rattle.lines.proofs.Gather.{front-here, front-on, front_end}
 use Rattle.lines.proofs.buffer.feed.line_end.Goals as goal
 

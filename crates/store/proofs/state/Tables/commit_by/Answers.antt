@@ -1,5 +1,4 @@
 use Rattle.std.proofs.Common.{◌≡◌, Some, None, Option, sym, refl, ap, ◌∙◌, subst, inl, inr}
-use Rattle.model.specs.Transactions.{Txn, is_serial}
 use Rattle.transactions.specs.Slots.{idle}
 use Rattle.history.specs.Engine.{Life, Engine, slot_at, with_slot, on_commit, commit_refusal, committed, refused}
 use Rattle.history.proofs.Lists.{none_some}

@@ -1,6 +1,6 @@
-use Rattle.std.proofs.Common.{Option, sym, ap}
+use Rattle.std.proofs.Common.{sym, ap}
 use Rattle.transactions.specs.Transactions.{model_of}
-use Rattle.history.specs.Engine.{Life, busy_refusal, commit_refusal}
+use Rattle.history.specs.Engine.{busy_refusal, commit_refusal}
 use Rattle.store.proofs.Runs.{idle-told, going-told}
 use Rattle.store.proofs.Judging.{then}
 use Rattle.store.proofs.state.Tables.commit_refusal.Goals as goal

@@ -1,7 +1,7 @@
-use Rattle.std.proofs.Common.{◌≡◌, ◌<◌, take, vec_items, ap, arith}
+use Rattle.std.proofs.Common.{◌<◌, take, vec_items, ap, arith}
 use Rattle.model.specs.Transactions.{puts, after, empty}
 use Rattle.transactions.specs.Transactions.{writes_of}
-use Rattle.history.specs.Engine.{Engine, txns}
+use Rattle.history.specs.Engine.{txns}
 use Rattle.store.proofs.Finding.{one_found, none_found, all_found}
 use Rattle.store.proofs.Judging.{then}
 use Rattle.store.proofs.state.Tables.found.Goals as goal

@@ -2,7 +2,7 @@ use Rattle.std.proofs.Common.{◌≡◌, ℕ, ◌≤◌, map, get_or, vec_items,
 use Rattle.model.specs.declared.Call.TheVariants.{Read}
 use Rattle.model.specs.Transactions.{moment}
 use Rattle.transactions.specs.Slots.{idle, going, run_of, noted_in}
-use Rattle.history.specs.Engine.{count, refused}
+use Rattle.history.specs.Engine.{refused}
 use Rattle.store.specs.Fits.{bare}
 use Rattle.store.proofs.Finding.{floor-at, end_within}
 use Rattle.store.proofs.Recording.{nothing_new, performed-same, no_commit}

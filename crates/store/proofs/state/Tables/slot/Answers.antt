@@ -1,5 +1,4 @@
 use Rattle.std.proofs.Common.{sym, ap, ◌∙◌, arith}
-use lib.ListN.{length-map}
 use Rattle.std.proofs.lemmas.List.{get_or-map, get_or_past}
 use Rattle.transactions.specs.declared.slot.Slot.TheVariants.{Idle}
 use Rattle.transactions.specs.Slots.{run_of}

@@ -1,4 +1,4 @@
-use Rattle.std.proofs.Common.{leb, length, None, sym, refl, ap, ◌∙◌}
+use Rattle.std.proofs.Common.{leb, length, None, refl}
 use Rattle.model.specs.declared.Refusal.TheVariants.{TooMany}
 use Rattle.transactions.specs.Slots.{run_of, begin_refused, read_refused, write_refused, end_refused}
 use Rattle.history.specs.Engine.{Life, when, begin_refusal, busy_refusal}

@@ -1,4 +1,3 @@
-use Rattle.std.proofs.Common.{◌≡◌, ◌∙◌}
 use Rattle.transactions.specs.Transactions.{model_of}
 use Rattle.store.proofs.Judging.{judged_of, then}
 use Rattle.store.proofs.state.Tables.verdict.Goals as goal

@@ -1,7 +1,6 @@
-use Rattle.std.proofs.Common.{◌≡◌, ◌<◌, ◌≤◌, length, take, ap, ◌∙◌, arith}
-use Rattle.std.proofs.lemmas.List.{take_more_set, length-take-le}
+use Rattle.std.proofs.Common.{◌≡◌, ◌≤◌, length, ap, ◌∙◌, arith}
+use Rattle.std.proofs.lemmas.List.{length-take-le}
 use Rattle.model.specs.Transactions.{with_write}
-use Rattle.transactions.specs.Noted.{Within}
 use Rattle.transactions.specs.Transactions.{writes_of, model_of}
 use Rattle.transactions.proofs.Arrays.{few-cond, full_cond, same_model, model_write}
 use Rattle.transactions.proofs.transaction.Transaction.added.Goals as goal

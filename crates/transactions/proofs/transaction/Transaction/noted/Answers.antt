@@ -1,8 +1,6 @@
-use Rattle.std.proofs.Common.{◌≡◌, ◌<◌, ◌≤◌, length, take, sym, ap, ◌∙◌, subst, arith, length-set}
-use Rattle.std.proofs.lemmas.List.{take-take}
+use Rattle.std.proofs.Common.{◌<◌, ◌≤◌, length, ap, ◌∙◌, arith, length-set}
 use Rattle.model.specs.Transactions.{with_read}
-use Rattle.transactions.specs.declared.transaction.Transaction.{Transaction}
-use Rattle.transactions.specs.Transactions.{writes_of, model_of, noted}
+use Rattle.transactions.specs.Transactions.{writes_of, model_of}
 use Rattle.transactions.proofs.Arrays.{within_more, length-reads, still_within, few-cond, full_cond, same_model, model_read}
 use Rattle.transactions.proofs.transaction.Transaction.noted.Goals as goal
 use Rattle.transactions.proofs.transaction.Transaction.noted.Goals.{then-n-lt64, else-n-lt64}

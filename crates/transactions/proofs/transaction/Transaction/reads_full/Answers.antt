@@ -1,4 +1,4 @@
-use Rattle.std.proofs.Common.{◌≡◌, ◌≤◌, leb, length, sym, ap, arith}
+use Rattle.std.proofs.Common.{◌≤◌, leb, length, sym, ap, arith}
 use Rattle.transactions.specs.Transactions.{writes_of}
 use Rattle.transactions.proofs.Arrays.{length-reads}
 use Rattle.transactions.proofs.transaction.Transaction.reads_full.Goals as goal

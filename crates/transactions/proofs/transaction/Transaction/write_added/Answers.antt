@@ -1,6 +1,5 @@
-use Rattle.std.proofs.Common.{◌≡◌, ◌<◌, ◌≤◌, length, take, arith}
+use Rattle.std.proofs.Common.{◌≡◌, ◌<◌, ◌≤◌, length, arith}
 use Rattle.std.proofs.lemmas.List.{take_more_set, length-take-le}
-use Rattle.transactions.specs.Noted.{Within}
 use Rattle.transactions.specs.Transactions.{writes_of}
 use Rattle.transactions.proofs.Arrays.{reads_kept}
 use Rattle.transactions.proofs.transaction.Transaction.write_added.Goals as goal

@@ -1,4 +1,4 @@
-use Rattle.std.proofs.Common.{refl, ◌∙◌, arith}
+use Rattle.std.proofs.Common.{refl, ◌∙◌}
 use Rattle.versions.specs.Chain.{links}
 use Rattle.versions.proofs.Places.{listed_cleared, sound_cleared}
 use Rattle.versions.proofs.chains.Chains.clear.Goals as goal

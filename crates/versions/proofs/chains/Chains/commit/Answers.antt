@@ -1,4 +1,4 @@
-use Rattle.std.proofs.Common.{◌≡◌, ℕ, ◌+◌, ◌-◌, ◌<◌, ◌≤◌, true, false, drop, sym, refl, ap, ◌∙◌, arith}
+use Rattle.std.proofs.Common.{◌≡◌, ◌+◌, ◌-◌, true, false, drop, sym, refl, ◌∙◌, arith}
 use Rattle.model.specs.Versions.{keys_of}
 use Rattle.versions.specs.Lent.{view}
 use Rattle.versions.proofs.Named.{inside-at, keys_end, keys-part, keys_step, commit-none, commit-step}

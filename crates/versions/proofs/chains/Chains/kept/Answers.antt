@@ -1,5 +1,5 @@
-use Rattle.std.proofs.Common.{◌≡◌, ℕ, ◌+◌, ◌<◌, ◌≤◌, List, [], ◌∷◌, ◌++◌, map, length, take, set, sym, refl, ap, ◌∙◌, append-nil, arith}
-use Rattle.model.specs.Versions.{Version, swept}
+use Rattle.std.proofs.Common.{◌+◌, ◌<◌, ◌≤◌, [], ◌++◌, map, length, take, set, sym, ap, ◌∙◌, append-nil, arith}
+use Rattle.model.specs.Versions.{swept}
 use Rattle.versions.specs.Chain.{listed, version_at, chain}
 use Rattle.versions.specs.Lent.{inside}
 use Rattle.versions.proofs.Walks.{swept_none, swept-here, swept-behind}

@@ -1,7 +1,7 @@
-use Rattle.std.proofs.Common.{◌≡◌, ℕ, ◌<◌, ◌≤◌, false, not, eqb, sym, ap, ◌∙◌, arith, eq-eqb}
+use Rattle.std.proofs.Common.{◌<◌, ◌≤◌, not, sym, ap, ◌∙◌, arith, eq-eqb}
 use Rattle.model.specs.Versions.{newer}
 use Rattle.versions.specs.Chain.{listed, chain}
-use Rattle.versions.specs.Lent.{inside, view}
+use Rattle.versions.specs.Lent.{inside}
 use Rattle.versions.proofs.Walks.{newer-none, newer-here}
 use Rattle.versions.proofs.chains.Chains.newer.Goals as goal
 

@@ -1,4 +1,4 @@
-use Rattle.std.proofs.Common.{◌≡◌, ◌<◌, ◌≤◌, sym, refl, ap, ◌∙◌, arith}
+use Rattle.std.proofs.Common.{◌<◌, sym, ap, ◌∙◌, arith}
 use Rattle.model.specs.Versions.{shown}
 use Rattle.versions.specs.Chain.{listed, chain}
 use Rattle.versions.specs.Lent.{inside}

@@ -1,4 +1,4 @@
-use Rattle.std.proofs.Common.{◌≡◌, ℕ, ◌+◌, ◌-◌, ◌<◌, ◌≤◌, cond, eqb, length, get_or, sym, refl, ap, ◌∙◌, arith, eqb-true}
+use Rattle.std.proofs.Common.{◌-◌, ◌≤◌, eqb, length, get_or, refl, ap, ◌∙◌, arith, eqb-true}
 use Rattle.model.specs.Versions.{swept}
 use Rattle.versions.specs.Chain.{version_at}
 use Rattle.versions.specs.Lent.{inside, view}

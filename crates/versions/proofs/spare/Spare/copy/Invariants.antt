@@ -1,4 +1,4 @@
-use Rattle.std.proofs.Common.{◌≡◌, ℕ, ◌+◌, ◌<◌, ◌≤◌, cond, eqb, map, take, drop}
+use Rattle.std.proofs.Common.{◌≡◌, ℕ, ◌+◌, cond, eqb, map, take, drop}
 use Rattle.versions.specs.Chain.{version_at}
 use Rattle.versions.specs.Lent.{inside, Good, view}
 use Rattle.versions.proofs.spare.Spare.copy.Given as goal

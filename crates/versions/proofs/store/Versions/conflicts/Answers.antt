@@ -1,4 +1,4 @@
-use Rattle.std.proofs.Common.{◌≡◌, ℕ, Bool, true, false, List, sym, refl, ◌∙◌, arith}
+use Rattle.std.proofs.Common.{◌≡◌, ℕ, Bool, true, false, List, sym, ◌∙◌, arith}
 use Rattle.model.specs.declared.Entry.{Entry}
 use Rattle.model.specs.Versions.{Version, newer}
 use Rattle.versions.specs.Store.{held}

@@ -1,4 +1,4 @@
-use Rattle.std.proofs.Common.{sym, ◌∙◌, arith}
+use Rattle.std.proofs.Common.{sym, ◌∙◌}
 use Rattle.model.specs.Versions.{swept, versions}
 use Rattle.versions.specs.Store.{held}
 use Rattle.versions.proofs.Sums.{total-same}

@@ -1,4 +1,4 @@
-use Rattle.std.proofs.Common.{◌≡◌, ℕ, ◌≤◌, length, sym, ap, ◌∙◌, arith}
+use Rattle.std.proofs.Common.{◌≡◌, ℕ, length, ap, ◌∙◌, arith}
 use Rattle.model.specs.Versions.{swept}
 use Rattle.versions.specs.declared.chains.Chains.{Chains}
 use Rattle.versions.specs.Lent.{view}
