@@ -1,6 +1,6 @@
 -- What a worked case says: what happens, what is answered, and what is true then.
 use Rattle.std.specs.Prelude.{◌≡◌, ℕ, ◌≤◌, List, [], ◌∷◌, ◌++◌, take}
-use Rattle.std.specs.List.{AllByRecursion as All}
+use Rattle.std.specs.List.{AllByRecursion}
 use Rattle.model.specs.Versions.{Version}
 use Rattle.history.specs.Engine.{Engine, fresh, txns, count, held_at, Reply, reply_to, bytes_in, Event, Called, Stopped, step, led}
 use Rattle.order.specs.Order.{line}
@@ -47,4 +47,4 @@ pub record Row : Type 0 where
 
 -- each call is answered as the row says, and what it says is true
 abbrev pub ComesOut : Row → Type 0
-ComesOut r = (answers_of r.events ≡ r.answers) × All (Holds r.events) r.facts
+ComesOut r = (answers_of r.events ≡ r.answers) × AllByRecursion (Holds r.events) r.facts

@@ -1,6 +1,6 @@
 -- Eight worked cases.
 use Rattle.std.specs.Prelude.{ℕ, List, [], ◌∷◌, ◌++◌, Some}
-use Rattle.std.specs.List.{AllByRecursion as All}
+use Rattle.std.specs.List.{AllByRecursion}
 use Rattle.model.specs.declared.Call.TheVariants as calls
 use Rattle.model.specs.declared.Entry.{Entry}
 use Rattle.model.specs.declared.Level.{Level}
@@ -147,4 +147,4 @@ table =
 
 -- every row of the table comes out
 abbrev pub EveryRow : Type 0
-EveryRow = All ComesOut table
+EveryRow = AllByRecursion ComesOut table

@@ -1,6 +1,6 @@
 -- Lists of commits that the rules allow.
 use Rattle.std.proofs.Common.{◌≡◌, ℕ, zero, suc, ◌+◌, ◌<◌, ◌≤◌, Bool, true, false, ◌&&◌, List, [], ◌∷◌, ◌++◌, length, get_or, take, None, sym, refl, ap, ◌∙◌, subst, ⊎_elim, add-one, arith}
-use Rattle.std.specs.List.{AllByRecursion as All}
+use Rattle.std.specs.List.{AllByRecursion}
 use Rattle.std.proofs.lemmas.List.{take_more, take_all, take-take, take-append-le, take_at, get_or-take, get_or_append_left, get_or_push, length-take-le, length_push}
 use Rattle.std.proofs.lemmas.Bool.{cases_Bool, cases_lt, le-leb}
 use Rattle.model.specs.declared.Level.{Level}
@@ -29,7 +29,7 @@ no_pivot_with Serial true p e h = cc
 no_pivot_with Serial false true e h = cc
 no_pivot_with Serial false false e h = refl
 
-all-at : (P : Commit → Type 0) (n : ℕ) (ts : List Txn) (i : ℕ) (d : Txn) → All P (numbered n ts) → i < length ts → P (commit (n + i) (get_or ts i d))
+all-at : (P : Commit → Type 0) (n : ℕ) (ts : List Txn) (i : ℕ) (d : Txn) → AllByRecursion P (numbered n ts) → i < length ts → P (commit (n + i) (get_or ts i d))
 unfolding numbered
 all-at P n [] i d a l = absurd (omega arith)
 all-at P n (t ∷ ts) zero d a l = let e : n ≡ n + 0 = omega arith in subst (λ k. P (commit k t)) e a.0

@@ -1,6 +1,6 @@
 -- Lists: some element that passes a test, the first one, and those that are kept.
 use Rattle.std.proofs.Common.{◌≡◌, ℕ, Bool, true, false, cond, ◌||◌, List, [], ◌∷◌, ◌++◌, map, is_some, Some, sym, refl, ap, ◌∙◌}
-use Rattle.std.specs.List.{AllByRecursion as All}
+use Rattle.std.specs.List.{AllByRecursion}
 use Rattle.std.proofs.lemmas.Bool.{or_parts}
 use Rattle.model.specs.Lists.{any, kept}
 use Rattle.conflicts.specs.Marks.{lowest, since}
@@ -39,16 +39,16 @@ module _ {X : Type 0} where
       go true ih = ap (λ l. y ∷ l) ih
       go false ih = ih
 
-  pub none_passes : (p : X → Bool) (xs : List X) → any p xs ≡ false → All (λ x. p x ≡ false) xs
+  pub none_passes : (p : X → Bool) (xs : List X) → any p xs ≡ false → AllByRecursion (λ x. p x ≡ false) xs
   unfolding any
   none_passes p [] e = tt
   none_passes p (x ∷ xs) e = let w = or_parts (p x) (any p xs) e in (w.0, none_passes p xs w.1)
 
-  pub all_both : (P Q : X → Type 0) (xs : List X) → All P xs → All Q xs → All (λ x. P x × Q x) xs
+  pub all_both : (P Q : X → Type 0) (xs : List X) → AllByRecursion P xs → AllByRecursion Q xs → AllByRecursion (λ x. P x × Q x) xs
   all_both P Q [] a b = tt
   all_both P Q (x ∷ xs) a b = ((a.0, b.0), all_both P Q xs a.1 b.1)
 
-  pub any_same : (P : X → Type 0) (p q : X → Bool) → ((x : X) → P x → p x ≡ q x) → (xs : List X) → All P xs → any p xs ≡ any q xs
+  pub any_same : (P : X → Type 0) (p q : X → Bool) → ((x : X) → P x → p x ≡ q x) → (xs : List X) → AllByRecursion P xs → any p xs ≡ any q xs
   unfolding any
   any_same P p q h [] a = refl
   any_same P p q h (x ∷ xs) a = ap (λ b. b || any p xs) (h x a.0) ∙ ap (λ b. q x || b) (any_same P p q h xs a.1)
@@ -60,7 +60,7 @@ module _ {X : Type 0} where
 
 module _ {X Y : Type 0} (s : X → Bool) (P : X → Type 0) where
   -- those that are kept, seen through two functions that agree on them
-  pub map-kept : (g h : X → Y) → ((x : X) → P x → s x ≡ true → g x ≡ h x) → (xs : List X) → All P xs → map g (kept s xs) ≡ map h (kept s xs)
+  pub map-kept : (g h : X → Y) → ((x : X) → P x → s x ≡ true → g x ≡ h x) → (xs : List X) → AllByRecursion P xs → map g (kept s xs) ≡ map h (kept s xs)
   unfolding kept
   map-kept g h e [] a = refl
   map-kept g h e (x ∷ xs) a = go (s x) refl (map-kept g h e xs a.1)
@@ -71,7 +71,7 @@ module _ {X Y : Type 0} (s : X → Bool) (P : X → Type 0) where
 
   -- a test that only those pass that are kept, seen through g as the test q
   module _ (g : X → Y) (p : X → Bool) (q : Y → Bool) (there : (x : X) → P x → s x ≡ true → p x ≡ q (g x)) (gone : (x : X) → P x → s x ≡ false → p x ≡ false) where
-    pub lowest-kept : (num : X → ℕ) (num' : Y → ℕ) → ((x : X) → num x ≡ num' (g x)) → (xs : List X) → All P xs → lowest num p xs ≡ lowest num' q (map g (kept s xs))
+    pub lowest-kept : (num : X → ℕ) (num' : Y → ℕ) → ((x : X) → num x ≡ num' (g x)) → (xs : List X) → AllByRecursion P xs → lowest num p xs ≡ lowest num' q (map g (kept s xs))
     unfolding lowest kept
     lowest-kept num num' n [] a = refl
     lowest-kept num num' n (x ∷ xs) a = go (s x) refl (lowest-kept num num' n xs a.1)
@@ -82,7 +82,7 @@ module _ {X Y : Type 0} (s : X → Bool) (P : X → Type 0) where
             ∙ ap (λ l. cond (q (g x)) (Some (num' (g x))) l) ih
         go false k ih = ap (λ b. cond b (Some (num x)) (lowest num p xs)) (gone x a.0 k) ∙ ih
 
-    pub any-kept : (xs : List X) → All P xs → any p xs ≡ any q (map g (kept s xs))
+    pub any-kept : (xs : List X) → AllByRecursion P xs → any p xs ≡ any q (map g (kept s xs))
     any-kept xs a =
         sym (some_lowest (λ _. 0) p xs) ∙ ap is_some (lowest-kept (λ _. 0) (λ _. 0) (λ _. refl) xs a) ∙ some_lowest (λ _. 0) q (map g (kept s xs))
 

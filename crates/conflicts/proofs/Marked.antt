@@ -1,6 +1,6 @@
 -- The marks of the commits from a floor on, with one commit more.
 use Rattle.std.proofs.Common.{◌≡◌, ℕ, ◌≤◌, Bool, true, false, cond, ◌&&◌, ◌||◌, leb, List, [], ◌∷◌, ◌++◌, map, length, is_some, sym, refl, ap, ◌∙◌, ⊎_elim, arith}
-use Rattle.std.specs.List.{AllByRecursion as All}
+use Rattle.std.specs.List.{AllByRecursion}
 use Rattle.std.proofs.lemmas.Bool.{le-leb, lt-leb, leb-false, ne_eqb, and_parts, and_cases, and_from}
 use Rattle.std.proofs.lemmas.List.{append-nil, map_push}
 use Rattle.model.specs.Lists.{any, kept}
@@ -47,7 +47,7 @@ module _ (n : ℕ) (t : Txn) (b : t.begin ≤ n) (s : is_serial t.level ≡ true
   is_serial_lem : (a : Commit) → recent f a ≡ true → serial a ≡ true
   is_serial_lem a e = (and_parts (serial a) (leb f a.number) e).0
 
-  module _ (ds : List Commit) (h : All (Before n) ds) where
+  module _ (ds : List Commit) (h : AllByRecursion (Before n) ds) where
     abbrev more : List Commit
     more = ds ++ (d ∷ [])
 
@@ -105,7 +105,7 @@ module _ (n : ℕ) (t : Txn) (b : t.begin ≤ n) (s : is_serial t.level ≡ true
         ∙ ap (λ y. any (turns t) (held_of f ds) || (is_some (lowest mark_number (is_passed t) (held_of f ds)) && y)) (sym (some_lowest commit_number (passer d) more) ∙ ap is_some into-now)
 
 -- t of another level
-module _ (n : ℕ) (t : Txn) (s : is_serial t.level ≡ false) (ds : List Commit) (h : All (Before n) ds) where
+module _ (n : ℕ) (t : Txn) (s : is_serial t.level ≡ false) (ds : List Commit) (h : AllByRecursion (Before n) ds) where
   abbrev d' : Commit
   d' = commit n t
 

@@ -1,6 +1,6 @@
 -- Commits and their numbers.
 use Rattle.std.proofs.Common.{◌≡◌, ℕ, suc, ◌+◌, ◌<◌, ◌≤◌, List, [], ◌∷◌, ◌++◌, length, ap, ◌∙◌, arith}
-use Rattle.std.specs.List.{AllByRecursion as All}
+use Rattle.std.specs.List.{AllByRecursion}
 use Rattle.model.specs.Transactions.{Txn}
 use Rattle.model.specs.Commits.{Commit, numbered, commits}
 use Rattle.conflicts.specs.Held.{Timely}
@@ -22,12 +22,12 @@ commits_push ts t = let e : 0 + length ts ≡ length ts = omega arith in numbere
 abbrev pub Before : ℕ → Commit → Type 0
 Before n a = (a.number < n) × (a.txn.begin ≤ n)
 
-before-from : (k n : ℕ) (ts : List Txn) → Timely k ts → k + length ts ≤ n → All (Before n) (numbered k ts)
+before-from : (k n : ℕ) (ts : List Txn) → Timely k ts → k + length ts ≤ n → AllByRecursion (Before n) (numbered k ts)
 unfolding numbered
 before-from k n [] h l = tt
 before-from k n (t ∷ ts) h l = let b = h.0 in ((omega arith, omega arith), before-from (suc k) n ts h.1 (omega arith))
 
-pub before-all : (ts : List Txn) → Timely 0 ts → All (Before (length ts)) (commits ts)
+pub before-all : (ts : List Txn) → Timely 0 ts → AllByRecursion (Before (length ts)) (commits ts)
 before-all ts h = before-from 0 (length ts) ts h (omega arith)
 
 timely-from : (k : ℕ) (ts : List Txn) (t : Txn) → Timely k ts → t.begin ≤ k + length ts → Timely k (ts ++ (t ∷ []))

@@ -1,7 +1,7 @@
 -- Those in front whose numbers are below a begin: who began there saw them, and they do not count.
 use Rattle.std.proofs.Common.{◌≡◌, ℕ, zero, suc, ◌+◌, ◌-◌, ◌<◌, ◌≤◌, Bool, false, cond, ◌&&◌, ◌||◌, List, [], ◌∷◌, ◌++◌, map, length, get_or, take, drop, is_some, Some, sym, refl, ap, ◌∙◌, subst, arith}
 use borrow.Rule.Slice.PartMut.{put_mid}
-use Rattle.std.specs.List.{AllByRecursion as All}
+use Rattle.std.specs.List.{AllByRecursion}
 use Rattle.std.proofs.lemmas.List.{drop-map, map_push, map-append, get_or_default, get_or-map, length-map, take_rest, drop_all, drop_more, append-nil, length-drop}
 use Rattle.std.proofs.lemmas.List.Sorted.{IsNonDecreasingBy-from_all_adjacent, all_adjacent_from_non_decreasing, IsNonDecreasingBy-drop, IsNonDecreasingBy-push}
 use Rattle.std.proofs.lemmas.Bool.{lt-leb}
@@ -14,7 +14,7 @@ use Rattle.conflicts.proofs.Bools.{since-not}
 use Rattle.conflicts.proofs.Firsts.{some_lowest, map-map}
 
 -- numbers that rise, up to one below b
-all-front : (b : ℕ) (ns : List ℕ) (r : ℕ) → r ≤ length ns → ((k : ℕ) → k < r → get_or ns k 0 < b) → All (λ n. n < b) (take r ns)
+all-front : (b : ℕ) (ns : List ℕ) (r : ℕ) → r ≤ length ns → ((k : ℕ) → k < r → get_or ns k 0 < b) → AllByRecursion (λ n. n < b) (take r ns)
 all-front b ns zero l h = tt
 all-front b [] (suc r) l h = tt
 all-front b (n ∷ ns) (suc r) l h = (h 0 (omega arith), all-front b ns r (omega arith) (λ k m. h (suc k) (omega arith)))
@@ -28,14 +28,14 @@ front_below b cs r up l last =
 
 -- a loop back over numbers of at least b
 pub rest-none : (b : ℕ) (cs : List Committed) → RestFrom b (length cs) cs
-rest-none b cs = subst (All (λ n. b ≤ n)) (sym (drop_all (length cs) (map number_of cs) (omega (arith, length-map cs number_of)))) tt
+rest-none b cs = subst (AllByRecursion (λ n. b ≤ n)) (sym (drop_all (length cs) (map number_of cs) (omega (arith, length-map cs number_of)))) tt
 
 pub rest_more : (b : ℕ) (cs : List Committed) (r : ℕ) → 0 < r → r ≤ length cs → (a : Committed) → b ≤ (get_or cs (r - 1) a).number → RestFrom b r cs → RestFrom b (r - 1) cs
 rest_more b cs r p l a h rest =
     let ns = map number_of cs in
     let same = get_or-map number_of cs (r - 1) a 0 (omega arith) in
     let next : r ≡ r - 1 + 1 = omega arith in
-    subst (All (λ n. b ≤ n)) (sym (drop_more ns (r - 1) 0 (omega (arith, length-map cs number_of)))) (omega arith, subst (λ k. All (λ n. b ≤ n) (drop k ns)) next rest)
+    subst (AllByRecursion (λ n. b ≤ n)) (sym (drop_more ns (r - 1) 0 (omega (arith, length-map cs number_of)))) (omega arith, subst (λ k. AllByRecursion (λ n. b ≤ n) (drop k ns)) next rest)
 
 pub rise_push : (ns : List ℕ) (n : ℕ) → Rise ns → (0 < length ns → get_or ns (length ns - 1) 0 ≤ n) → Rise (ns ++ (n ∷ []))
 rise_push ns n up last =

@@ -1,7 +1,7 @@
 -- Members of a list, its places, and slots that are set.
 use Rattle.std.proofs.Common.{◌≡◌, ℕ, zero, suc, ◌<◌, ◌⊎◌, List, [], ◌∷◌, map, length, get_or, set, replicate, Some, None, Option, sym, refl, inl, inr, arith}
 use mathlib.Core.List.{Memᴰ}
-use Rattle.std.specs.List.{AllByRecursion as All}
+use Rattle.std.specs.List.{AllByRecursion}
 
 pub map_same : {X Y : Type 0} (f g : X → Y) (xs : List X) → ((x : X) → Memᴰ x xs → f x ≡ g x) → map f xs ≡ map g xs
 map_same f g [] h = refl
@@ -10,7 +10,7 @@ map_same f g (x ∷ xs) h =
     let b = map_same f g xs (λ y m. h y (Memᴰ.tail m)) in
     cc
 
-pub all_members : {X : Type 0} (P : X → Type 0) (xs : List X) → ((x : X) → Memᴰ x xs → P x) → All P xs
+pub all_members : {X : Type 0} (P : X → Type 0) (xs : List X) → ((x : X) → Memᴰ x xs → P x) → AllByRecursion P xs
 all_members P [] h = tt
 all_members P (x ∷ xs) h = (h x (Memᴰ.head refl), all_members P xs (λ y m. h y (Memᴰ.tail m)))
 

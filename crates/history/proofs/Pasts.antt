@@ -1,7 +1,7 @@
 -- Every list of commits that a file can hold is one that some events led to: each began at Latest, wrote, committed, and was
 -- followed by a sweep.
 use Rattle.std.proofs.Common.{◌≡◌, ℕ, ◌+◌, ◌^◌, ◌<◌, ◌≤◌, false, leb, List, [], ◌∷◌, ◌++◌, map, length, take, replicate, Some, None, Option, sym, refl, ap, ◌∙◌, subst, arith}
-use Rattle.std.specs.List.{AllByRecursion as All}
+use Rattle.std.specs.List.{AllByRecursion}
 use Rattle.std.proofs.lemmas.List.{take_all, map_push, length-map, length_push, append-nil, append_assoc}
 use Rattle.std.proofs.lemmas.Bool.{or_parts, lt-leb, le-ltb}
 use Rattle.model.specs.declared.Call.{Call}
@@ -96,7 +96,7 @@ written-more ds l es ws e =
     ∙ ap (λ (vs : List Entry). written ds ++ (vs ∷ ws)) e
 
 -- all of them, after those that there are
-then-all : (ws : List (List Entry)) (ds : List Life) → All Writable ws → length ds + length ws < 2 ^ 32 → Led (standing ds (length ds) None) →
+then-all : (ws : List (List Entry)) (ds : List Life) → AllByRecursion Writable ws → length ds + length ws < 2 ^ 32 → Led (standing ds (length ds) None) →
     (cs : List Life) × (written cs ≡ written ds ++ ws) × Led (standing cs (length cs) None)
 then-all [] ds a l p = (ds, sym (append-nil (written ds)), p)
 then-all (es ∷ ws) ds a l p =

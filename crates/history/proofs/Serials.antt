@@ -1,6 +1,6 @@
 -- Run alone in the line's order, each commit has the answers that it was given.
 use Rattle.std.proofs.Common.{◌≡◌, ℕ, zero, suc, ◌<◌, ◌≤◌, false, ◌⊎◌, List, [], ◌∷◌, map, get_or, sym, refl, ap, ◌∙◌, subst, inl, inr, arith}
-use Rattle.std.specs.List.{range_with_len, AllByRecursion as All}
+use Rattle.std.specs.List.{range_with_len, AllByRecursion}
 use Rattle.std.specs.List.Sorted.{IsPermutation}
 use Rattle.std.proofs.lemmas.List.{length-map, get_or_past}
 use Rattle.std.proofs.lemmas.Bool.{cases_lt}
@@ -34,7 +34,7 @@ module _ (e : Engine) (v : Sound e) where
   one-moment : OneMoment (txns e)
   one-moment n k =
       let m : n < count e = omega (arith, length-map e.done txn_of) in
-      subst (λ (t : Txn). is_latest t.level ≡ false → All (λ (r : rules.Read). r.at ≡ t.begin) t.reads) (sym (nth-life e.done n))
+      subst (λ (t : Txn). is_latest t.level ≡ false → AllByRecursion (λ (r : rules.Read). r.at ≡ t.begin) t.reads) (sym (nth-life e.done n))
       (λ s. all_members (λ (r : rules.Read). r.at ≡ (life n).txn.begin) (life n).txn.reads ((v.ended n m).moment s))
 
   given-one-by-one : (order : List ℕ) (m : State) → OneByOne (txns e) m (map (nth (txns e)) order) → GivenOneByOne m (in_order e order)

@@ -1,6 +1,6 @@
 -- Every list of commits that a file can hold is one that some events led to.
 use Rattle.std.specs.Prelude.{◌≡◌, ◌^◌, ◌<◌, ◌≤◌, false, List, map, length}
-use Rattle.std.specs.List.{AllByRecursion as All}
+use Rattle.std.specs.List.{AllByRecursion}
 use Rattle.model.specs.declared.Entry.{Entry}
 use Rattle.model.specs.Transactions.{Txn}
 use Rattle.versions.specs.Writes.{outside}
@@ -18,4 +18,4 @@ abbrev pub OpenedWith : List (List Entry) → Engine → Type 0
 OpenedWith ws e = (map writes_of (txns e) ≡ ws) × (e.floor ≡ count e) × (e.synced ≡ count e) × (e.slots ≡ idle)
 
 abbrev pub EveryPast : Type 0
-EveryPast = (ws : List (List Entry)) → All Writable ws → length ws < 2 ^ 32 → (h : List Event) × OpenedWith ws (led h)
+EveryPast = (ws : List (List Entry)) → AllByRecursion Writable ws → length ws < 2 ^ 32 → (h : List Event) × OpenedWith ws (led h)

@@ -1,7 +1,7 @@
 -- What was written is read back; a record cut short is seen to be so.
 use Rattle.std.proofs.Common.{◌≡◌, ℕ, ◌+◌, ◌*◌, ◌/◌, ◌%◌, ◌^◌, ◌<◌, ◌≤◌, false, ltb, List, [], ◌∷◌, ◌++◌, length, get_or, take, drop, sym, refl, ap, ◌∙◌, arith}
 use native.Mathlib.Nat.{div-div-eq-div-mul}
-use Rattle.std.specs.List.{flat_map, AllByRecursion as All}
+use Rattle.std.specs.List.{flat_map, AllByRecursion}
 use Rattle.std.proofs.lemmas.List.{length-append, get_or-take, length-take-le}
 use Rattle.std.proofs.lemmas.Bool.{le-ltb, or_from}
 use Rattle.std.proofs.lemmas.Bool.Decides.{nat_tests}
@@ -38,14 +38,14 @@ entry-back e rest fine =
     let v = of4-be4 e.value rest fine.1 in
     ap (λ x. record { key = x; value = of4 (be4 e.value ++ rest) }) k ∙ ap (λ x. record { key = e.key; value = x }) v
 
-entries-back : (es : List Entry) (rest : List ℕ) → All FineEntry es → entries_of (length es) (flat_map entry_bytes es ++ rest) ≡ es
+entries-back : (es : List Entry) (rest : List ℕ) → AllByRecursion FineEntry es → entries_of (length es) (flat_map entry_bytes es ++ rest) ≡ es
 unfolding entries_of entry_bytes be2 be4
 entries-back [] rest fine = refl
 entries-back (e ∷ es) rest fine =
     ap (λ x. x ∷ entries_of (length es) (flat_map entry_bytes es ++ rest)) (entry-back e (flat_map entry_bytes es ++ rest) fine.0)
     ∙ ap (λ l. e ∷ l) (entries-back es rest fine.1)
 
-pub none_stray : (es : List Entry) → All FineEntry es → strays es ≡ false
+pub none_stray : (es : List Entry) → AllByRecursion FineEntry es → strays es ≡ false
 unfolding any
 none_stray [] fine = refl
 none_stray (e ∷ es) fine = or_from (ltb 4095 e.key) (strays es) (le-ltb 4095 e.key fine.0.0) (none_stray es fine.1)

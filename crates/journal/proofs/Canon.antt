@@ -1,6 +1,6 @@
 -- What is read is what stands there: a whole record's bytes are those of its number and writes.
 use Rattle.std.proofs.Common.{◌≡◌, ℕ, zero, suc, ◌+◌, ◌*◌, ◌/◌, ◌%◌, ◌^◌, ◌<◌, ◌≤◌, false, ltb, List, [], ◌∷◌, ◌++◌, length, get_or, take, drop, sym, refl, ap, ◌∙◌, subst, arith, take-add, w8, Fits}
-use Rattle.std.specs.List.{flat_map, AllByRecursion as All}
+use Rattle.std.specs.List.{flat_map, AllByRecursion}
 use Rattle.std.proofs.ByRecursion.{All-drop, All-from_get_or}
 use Rattle.std.proofs.lemmas.List.{length-drop}
 use Rattle.std.proofs.lemmas.Bool.{cond_both, ltb-true, ltb-false, or_parts}
@@ -14,7 +14,7 @@ use Rattle.journal.specs.Laws.{Canonical, ReadFine}
 use Rattle.journal.proofs.Reading.{whole-within}
 
 abbrev Small : List ℕ → Type 0
-Small bs = All (λ b. b < 256) bs
+Small bs = AllByRecursion (λ b. b < 256) bs
 
 small_drop : (n : ℕ) (bs : List ℕ) → Small bs → Small (drop n bs)
 small_drop n bs s = All-drop (λ b. b < 256) n bs s
@@ -101,12 +101,12 @@ number_small : (bs : List ℕ) → Small bs → of4 bs < 2 ^ 32
 unfolding of4
 number_small bs s = omega (arith, small_at bs 0 s, small_at bs 1 s, small_at bs 2 s, small_at bs 3 s)
 
-values_small : (n : ℕ) (bs : List ℕ) → Small bs → All (λ (e : Entry). e.value < 2 ^ 32) (entries_of n bs)
+values_small : (n : ℕ) (bs : List ℕ) → Small bs → AllByRecursion (λ (e : Entry). e.value < 2 ^ 32) (entries_of n bs)
 unfolding entries_of entry_of
 values_small zero bs s = tt
 values_small (suc n) bs s = (number_small (drop 2 bs) (small_drop 2 bs s), values_small n (drop 6 bs) (small_drop 6 bs s))
 
-all-fine : (es : List Entry) → strays es ≡ false → All (λ (e : Entry). e.value < 2 ^ 32) es → All FineEntry es
+all-fine : (es : List Entry) → strays es ≡ false → AllByRecursion (λ (e : Entry). e.value < 2 ^ 32) es → AllByRecursion FineEntry es
 unfolding any
 all-fine [] keys values = tt
 all-fine (e ∷ es) keys values =
@@ -116,7 +116,7 @@ all-fine (e ∷ es) keys values =
 record-fine : (n : ℕ) (bs : List ℕ) (es : List Entry) (k : ℕ) → Small bs → parsed n bs ≡ whole es k → FineCommit es
 record-fine n bs es k s e =
     let w = whole-within n bs es k e in
-    (w.few, all-fine es w.keys (subst (All (λ (e : Entry). e.value < 2 ^ 32)) (sym w.reads) (values_small (length es) (drop 6 bs) (small_drop 6 bs s))))
+    (w.few, all-fine es w.keys (subst (AllByRecursion (λ (e : Entry). e.value < 2 ^ 32)) (sym w.reads) (values_small (length es) (drop 6 bs) (small_drop 6 bs s))))
 
 record_as : (n : ℕ) (bs : List ℕ) (p : Reading) → Small bs → parsed n bs ≡ p → RecordIn n bs p
 record_as n bs (whole es k) s e = (sym (record_forth n bs es k s e), record-fine n bs es k s e)

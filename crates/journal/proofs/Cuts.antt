@@ -1,7 +1,7 @@
 -- A file cut anywhere is read as the commits whose records end before the cut.
 use Rattle.std.proofs.Common.{◌≡◌, ℕ, suc, ◌+◌, ◌-◌, ◌*◌, ◌^◌, ◌<◌, List, [], ◌∷◌, ◌++◌, length, take, sym, refl, ap, ◌∙◌, subst, ⊎_elim, arith}
 use lib.Seq.{take-append-add, take-nil}
-use Rattle.std.specs.List.{AllByRecursion as All}
+use Rattle.std.specs.List.{AllByRecursion}
 use Rattle.std.proofs.lemmas.List.{length-append, take-append-le, take_all, drop_at}
 use Rattle.std.proofs.lemmas.Bool.{cases_lt, le-leb, lt-leb, cond-true, cond-false}
 use Rattle.model.specs.declared.Entry.{Entry}
@@ -17,7 +17,7 @@ use Rattle.journal.proofs.Replaying.{replayed-short, replayed-whole}
 abbrev Reads : ℕ → ℕ → List (List Entry) → ℕ → Type 0
 Reads n p ws k = replayed n (take p (file_from n ws)) ≡ good (take k ws) (length (file_from n (take k ws)))
 
-cut-from : (ws : List (List Entry)) (n p : ℕ) → All FineCommit ws → n + length ws < 2 ^ 32 → Reads n p ws (whole_in p ws)
+cut-from : (ws : List (List Entry)) (n p : ℕ) → AllByRecursion FineCommit ws → n + length ws < 2 ^ 32 → Reads n p ws (whole_in p ws)
 unfolding file_from whole_in
 cut-from [] n p fine small = ap (replayed n) (take-nil p) ∙ replayed-short n [] (nothing_short n)
 cut-from (es ∷ ws) n p fine small =

@@ -1,6 +1,6 @@
 -- A file of records, read from its start.
 use Rattle.std.specs.Prelude.{◌≡◌, ℕ, zero, suc, ◌+◌, ◌-◌, ◌*◌, ◌^◌, ◌<◌, ◌≤◌, cond, List, [], ◌∷◌, ◌++◌, length, take, drop, nat_le, nat_lt}
-use Rattle.std.specs.List.{AllByRecursion as All}
+use Rattle.std.specs.List.{AllByRecursion}
 use Rattle.model.specs.declared.Entry.{Entry}
 use Rattle.journal.specs.declared.types.Fault.{Fault}
 use Rattle.journal.specs.declared.types.Fault.TheVariants.{WrongNumber}
@@ -69,7 +69,7 @@ surveyed n (bad at why) = Bad at why
 pub record Read (n : ℕ) (bs : List ℕ) (ws : List (List Entry)) (used : ℕ) : Type 0 where
   pub inside : used ≤ length bs
   pub bytes : take used bs ≡ file_from n ws
-  pub fine : All FineCommit ws
+  pub fine : AllByRecursion FineCommit ws
   pub few : n + length ws < 2 ^ 32
 
 abbrev pub ReadIn : ℕ → List ℕ → Opened → Type 0

@@ -1,6 +1,6 @@
 -- What is promised of records and files.
 use Rattle.std.specs.Prelude.{◌≡◌, ℕ, ◌+◌, ◌^◌, ◌<◌, List, [], ◌∷◌, ◌++◌, length, take, drop, replicate}
-use Rattle.std.specs.List.{AllByRecursion as All}
+use Rattle.std.specs.List.{AllByRecursion}
 use Rattle.model.specs.declared.Entry.{Entry}
 use Rattle.journal.specs.declared.types.Fault.TheVariants.{UnknownKind, WrongNumber, TooManyWrites, KeyOutOfBounds}
 use Rattle.journal.specs.Records.{record_of, FineCommit}
@@ -9,7 +9,7 @@ use Rattle.journal.specs.Files.{file_from, file_of, good, bad, replayed, opened,
 
 -- commits that can be: never more than 4,294,967,295
 abbrev pub FineCommits : List (List Entry) → Type 0
-FineCommits ws = (length ws < 2 ^ 32) × All FineCommit ws
+FineCommits ws = (length ws < 2 ^ 32) × AllByRecursion FineCommit ws
 
 -- a commit's record is read as the commit, whatever follows
 abbrev pub RecordBack : Type 0
@@ -32,11 +32,11 @@ InPieces = (n : ℕ) (a b : List ℕ) →
 
 -- the bytes that are read as commits are those of the commits' records
 abbrev pub Canonical : Type 0
-Canonical = (bs : List ℕ) (ws : List (List Entry)) (n : ℕ) → All (λ b. b < 256) bs → opened bs ≡ good ws n → take n bs ≡ file_of ws
+Canonical = (bs : List ℕ) (ws : List (List Entry)) (n : ℕ) → AllByRecursion (λ b. b < 256) bs → opened bs ≡ good ws n → take n bs ≡ file_of ws
 
 -- bytes are read as commits that can be
 abbrev pub ReadFine : Type 0
-ReadFine = (bs : List ℕ) (ws : List (List Entry)) (n : ℕ) → All (λ b. b < 256) bs → opened bs ≡ good ws n → FineCommits ws
+ReadFine = (bs : List ℕ) (ws : List (List Entry)) (n : ℕ) → AllByRecursion (λ b. b < 256) bs → opened bs ≡ good ws n → FineCommits ws
 
 -- a file goes on with the records of what comes after
 abbrev pub FilesJoin : Type 0

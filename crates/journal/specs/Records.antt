@@ -1,7 +1,7 @@
 -- The record of a commit: the byte 1, the commit's number (4 bytes), how many writes (1), and of each write, in their
 -- order, the key (2) and the value (4). High byte first.
 use Rattle.std.specs.Prelude.{◌≡◌, ℕ, ◌+◌, ◌*◌, ◌/◌, ◌%◌, ◌^◌, ◌<◌, ◌≤◌, Bool, cond, not, ◌&&◌, List, [], ◌∷◌, ◌++◌, length, take, drop, Some, None, Option, nat_le, nat_lt}
-use Rattle.std.specs.List.{flat_map, AllByRecursion as All}
+use Rattle.std.specs.List.{flat_map, AllByRecursion}
 use Rattle.model.specs.declared.Entry.{Entry}
 use Rattle.model.specs.Lists.{any}
 
@@ -34,7 +34,7 @@ FineEntry e = (e.key ≤ 4095) × (e.value < 2 ^ 32)
 
 -- the writes of a commit that can be
 abbrev pub FineCommit : List Entry → Type 0
-FineCommit es = (length es ≤ 64) × All FineEntry es
+FineCommit es = (length es ≤ 64) × AllByRecursion FineEntry es
 
 -- a record with these writes can be, and so many bytes have room for it
 unfoldable pub fits : List Entry → ℕ → Bool

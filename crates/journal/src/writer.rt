@@ -1,6 +1,6 @@
 // Writes records.
 ghost use Rattle.std.specs.Prelude.{◌≡◌, ◌+◌, ◌*◌, ◌<◌, ◌≤◌, false, length};
-ghost use Rattle.std.specs.List.{flat_map, AllByRecursion as All};
+ghost use Rattle.std.specs.List.{flat_map, AllByRecursion};
 ghost use Rattle.journal.specs.Records.{written, entry_bytes, head_bytes, strays, FineEntry, Encoded};
 ghost use Rattle.journal.specs.Parsing.{ReadBack};
 
@@ -30,7 +30,7 @@ fn put_entries(out: &mut [u8], at: usize, entries: &[Entry])
     requires room { at + 6 * length entries.now ≤ length out.old }
     requires keys { strays entries.now ≡ false }
     ensures bytes { out.new ≡ written at (flat_map entry_bytes entries.now) out.old }
-    ensures fine { All FineEntry entries.now }
+    ensures fine { AllByRecursion FineEntry entries.now }
 {
     let mut place = at;
     for e in entries {

@@ -1,7 +1,7 @@
 -- Every answer is nothing or one line.
 use Rattle.std.proofs.Common.{◌≡◌, ℕ, ◌^◌, ◌<◌, Bool, true, false, eqb, List, [], ◌∷◌, ◌++◌, vec_items, decimal, sym, refl, append_assoc, arith}
 use borrow.Author.Tests.{apart_eqb}
-use Rattle.std.specs.List.{AllByRecursion as All}
+use Rattle.std.specs.List.{AllByRecursion}
 use Rattle.model.specs.Lists.{any}
 use Rattle.model.specs.Refusals.{number_of}
 use Rattle.model.specs.declared.Entry.{Entry}
@@ -24,7 +24,7 @@ unfolding any
 pair-plain true e k v = any_join feed (decimal e.key) (61 ∷ decimal e.value) (number-plain e.key k) (number-plain e.value v)
 pair-plain false e k v = any_join feed (decimal e.key) (61 ∷ decimal e.value) (number-plain e.key k) (number-plain e.value v)
 
-pairs-plain : (q : Bool) (es : List Entry) → All (λ (e : Entry). (e.key < 2 ^ 32) × (e.value < 2 ^ 32)) es → any feed (pairs q es) ≡ false
+pairs-plain : (q : Bool) (es : List Entry) → AllByRecursion (λ (e : Entry). (e.key < 2 ^ 32) × (e.value < 2 ^ 32)) es → any feed (pairs q es) ≡ false
 unfolding any pairs
 pairs-plain q [] h = refl
 pairs-plain q (e ∷ es) h = any_join feed (pair q e) (pairs true es) (pair-plain q e h.0.0 h.0.1) (pairs-plain true es h.1)

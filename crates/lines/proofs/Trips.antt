@@ -3,7 +3,7 @@ use Rattle.std.proofs.Common.{◌≡◌, ℕ, zero, suc, ◌+◌, ◌-◌, ◌^�
 use borrow.Author.Tests.{apart_eqb, both_ways}
 use Rattle.std.proofs.lemmas.Slice.Eq.{bytes_eq-Decides}
 use Rattle.std.proofs.lemmas.Bool.{or_parts, or_from, eqb-false, cond-false}
-use Rattle.std.specs.List.{AllByRecursion as All}
+use Rattle.std.specs.List.{AllByRecursion}
 use Rattle.std.specs.Str.{bytes_eq}
 use Rattle.model.specs.Lists.{any}
 use Rattle.model.specs.declared.Level.{Level}
@@ -24,12 +24,12 @@ same_not : (q : Bool) (v w : List ℕ) → bytes_eq v w ≡ q → (v ≡ w → �
 same_not true v w e h = absurd (h ((bytes_eq-Decides v w).0 e))
 same_not false v w e h = refl
 
-none-same : (w : List ℕ) (ns : List (List ℕ)) → All (λ (n : List ℕ). w ≡ n → ⊥) ns → any (bytes_eq w) ns ≡ false
+none-same : (w : List ℕ) (ns : List (List ℕ)) → AllByRecursion (λ (n : List ℕ). w ≡ n → ⊥) ns → any (bytes_eq w) ns ≡ false
 unfolding any
 none-same w [] h = refl
 none-same w (n ∷ ns) h = or_from (bytes_eq w n) (any (bytes_eq w) ns) (same_not (bytes_eq w n) w n refl h.0) (none-same w ns h.1)
 
-none_named : (w : List ℕ) (ns : List (List ℕ)) → any (bytes_eq w) ns ≡ false → All (λ (n : List ℕ). w ≡ n → ⊥) ns
+none_named : (w : List ℕ) (ns : List (List ℕ)) → any (bytes_eq w) ns ≡ false → AllByRecursion (λ (n : List ℕ). w ≡ n → ⊥) ns
 unfolding any
 none_named w [] h = tt
 none_named w (n ∷ ns) h =
@@ -55,7 +55,7 @@ pick-none w (n ∷ ns) (r ∷ rs) h =
     let p = or_parts (bytes_eq w n) (any (bytes_eq w) ns) h in
     cond-false (bytes_eq w n) r (pick w ns rs) p.0 ∙ pick-none w ns rs p.1
 
-pick_known : (w : List ℕ) (ns : List (List ℕ)) (rs : List Request) → length ns ≡ length rs → All (λ (r : Request). r ≡ Unknown → ⊥) rs → pick w ns rs ≡ Unknown → any (bytes_eq w) ns ≡ false
+pick_known : (w : List ℕ) (ns : List (List ℕ)) (rs : List Request) → length ns ≡ length rs → AllByRecursion (λ (r : Request). r ≡ Unknown → ⊥) rs → pick w ns rs ≡ Unknown → any (bytes_eq w) ns ≡ false
 unfolding any
 pick_known w [] rs l k h = refl
 pick_known w (n ∷ ns) [] l k h = absurd (omega arith)
@@ -178,7 +178,7 @@ ended-word : (w : List ℕ) → 0 < length w → ended w ≡ w ∷ []
 ended-word [] h = absurd (omega arith)
 ended-word (b ∷ w) h = refl
 
-spaced_words : (ws : List (List ℕ)) → All IsWord ws → words_of (spaced ws) ≡ ws
+spaced_words : (ws : List (List ℕ)) → AllByRecursion IsWord ws → words_of (spaced ws) ≡ ws
 unfolding words_from spaced
 spaced_words [] h = refl
 spaced_words (w ∷ []) h = splits.1 w h.0.1 ∙ ended-word w h.0.0
@@ -187,7 +187,7 @@ spaced_words (w ∷ (v ∷ ws)) h =
     ∙ ap (λ (x : List (List ℕ)). x ++ words_of (spaced (v ∷ ws))) (splits.1 w h.0.1 ∙ ended-word w h.0.0)
     ∙ ap (λ (x : List (List ℕ)). w ∷ x) (spaced_words (v ∷ ws) h.1)
 
-spaced-plain : (ws : List (List ℕ)) → All IsWord ws → any cr (spaced ws) ≡ false
+spaced-plain : (ws : List (List ℕ)) → AllByRecursion IsWord ws → any cr (spaced ws) ≡ false
 unfolding any spaced
 spaced-plain [] h = refl
 spaced-plain (w ∷ []) h = h.0.2
@@ -212,7 +212,7 @@ level-word Latest = (omega arith, refl, refl)
 level-word Snapshot = (omega arith, refl, refl)
 level-word Serial = (omega arith, refl, refl)
 
-spelt_words : (c : Call) → Sayable c → All IsWord (spelt c)
+spelt_words : (c : Call) → Sayable c → AllByRecursion IsWord (spelt c)
 unfolding any
 spelt_words (Begin s None) h = tt
 spelt_words (Begin s (Some l)) h = ((omega arith, refl, refl), (number_word s h, (level-word l, tt)))

@@ -3,7 +3,7 @@ use Rattle.std.proofs.Common.{◌≡◌, ℕ, zero, suc, ◌+◌, ◌^◌, ◌<�
 use borrow.Author.Tests.{both_ways}
 use Rattle.std.proofs.lemmas.Slice.Eq.{bytes_eq-Decides}
 use Rattle.std.proofs.lemmas.Bool.{and_parts, not-true, eqb-true, eqb-false}
-use Rattle.std.specs.List.{AllByRecursion as All}
+use Rattle.std.specs.List.{AllByRecursion}
 use Rattle.std.specs.Str.{bytes_eq, all_ascii_digits}
 use Rattle.model.specs.declared.Level.TheVariants.{Latest, Snapshot, Serial}
 use Rattle.model.specs.declared.Call.{Call}
@@ -22,25 +22,25 @@ use Rattle.lines.proofs.Trips.{pick, each}
 abbrev Some-word : List ℕ → Type 0
 Some-word w = 0 < length w
 
-all_join : (xs ys : List (List ℕ)) → All Some-word xs → All Some-word ys → All Some-word (xs ++ ys)
+all_join : (xs ys : List (List ℕ)) → AllByRecursion Some-word xs → AllByRecursion Some-word ys → AllByRecursion Some-word (xs ++ ys)
 all_join [] ys f g = g
 all_join (x ∷ xs) ys f g = (f.0, all_join xs ys f.1 g)
 
-ended_some : (w : List ℕ) → All Some-word (ended w)
+ended_some : (w : List ℕ) → AllByRecursion Some-word (ended w)
 ended_some [] = tt
 ended_some (b ∷ w) = (omega arith, tt)
 
-words_some : (w s : List ℕ) → All Some-word (words_from w s)
+words_some : (w s : List ℕ) → AllByRecursion Some-word (words_from w s)
 unfolding words_from
 words_some w [] = ended_some w
 words_some w (b ∷ s) = by (blank b) (words_some [] s) (words_some (w ++ b ∷ []) s)
   where
-    by : (q : Bool) → All Some-word (words_from [] s) → All Some-word (words_from (w ++ b ∷ []) s) → All Some-word (cond q (ended w ++ words_from [] s) (words_from (w ++ b ∷ []) s))
+    by : (q : Bool) → AllByRecursion Some-word (words_from [] s) → AllByRecursion Some-word (words_from (w ++ b ∷ []) s) → AllByRecursion Some-word (cond q (ended w ++ words_from [] s) (words_from (w ++ b ∷ []) s))
     by true f g = all_join (ended w) (words_from [] s) (ended_some w) f
     by false f g = g
 
 -- where the word at k is missing there are at most k, and where it is not there are more
-absent : (k : ℕ) (ws : List (List ℕ)) → All Some-word ws → missing (get_or ws k []) ≡ true → length ws ≤ k
+absent : (k : ℕ) (ws : List (List ℕ)) → AllByRecursion Some-word ws → missing (get_or ws k []) ≡ true → length ws ≤ k
 absent k [] f h = omega arith
 absent zero (w ∷ ws) f h = let e = eqb-true (length w) 0 h in let l = f.0 in absurd (omega arith)
 absent (suc k) (w ∷ ws) f h = let l = absent k ws f.1 h in omega arith
@@ -107,7 +107,7 @@ judged-whole d c true true e = (cc, refl, refl)
 judged-whole d c true false e = let z : ◌≡◌ {A = ℕ} 0 1 = cc in absurd (omega arith)
 judged-whole d c false q e = let z : ◌≡◌ {A = ℕ} 0 1 = cc in absurd (omega arith)
 
-module _ (ws : List (List ℕ)) (some : All Some-word ws) where
+module _ (ws : List (List ℕ)) (some : AllByRecursion Some-word ws) where
   -- the request, if whole, is for a call that the words ask for
   abbrev Right : Request → Type 0
   Right r = (c : Call) → r ≡ Whole c → Asks c ws

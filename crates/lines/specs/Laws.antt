@@ -1,6 +1,6 @@
 -- What the reading of lines and the writing of answers come to, in words of their own.
 use Rattle.std.specs.Prelude.{◌≡◌, ℕ, ◌+◌, ◌-◌, ◌*◌, ◌^◌, ◌<◌, min, true, false, cond, List, [], ◌∷◌, ◌++◌, length, Some, None, vec_items, codes, decimal, Option, ◌≢◌, nat_eq, slice_index_or}
-use Rattle.std.specs.List.{AllByRecursion as All}
+use Rattle.std.specs.List.{AllByRecursion}
 use Rattle.std.specs.Str.{all_ascii_digits}
 use Rattle.model.specs.Lists.{any}
 use Rattle.model.specs.declared.Level.{Level}
@@ -72,7 +72,7 @@ names =
     codes "begin" ∷ codes "read" ∷ codes "write" ∷ codes "commit" ∷ codes "abort" ∷ codes "sweep" ∷ codes "sync" ∷ codes "stop" ∷ codes "show" ∷ []
 
 abbrev pub NotNamed : List ℕ → Type 0
-NotNamed w = All (λ (n : List ℕ). w ≢ n) names
+NotNamed w = AllByRecursion (λ (n : List ℕ). w ≢ n) names
 
 -- a line without words is no call, and a line with words is none just where its first word names none
 abbrev pub NoCall : Type 0
@@ -155,7 +155,7 @@ Line t = (s : List ℕ) × (t ≡ s ++ 10 ∷ []) × (any (λ (b : ℕ). nat_eq 
 
 abbrev pub InLine : Answer → Type 0
 InLine Done = text_of Done ≡ []
-InLine (Found v) = All (λ (e : Entry). (e.key < 2 ^ 32) × (e.value < 2 ^ 32)) (vec_items v) → Line (text_of (Found v))
+InLine (Found v) = AllByRecursion (λ (e : Entry). (e.key < 2 ^ 32) × (e.value < 2 ^ 32)) (vec_items v) → Line (text_of (Found v))
 InLine (Committed n) = n < 2 ^ 32 → Line (text_of (Committed n))
 InLine (Shown s) = s.commits < 2 ^ 32 → s.versions < 2 ^ 32 → s.busy < 2 ^ 32 → Line (text_of (Shown s))
 InLine (Refused y) = Line (text_of (Refused y))

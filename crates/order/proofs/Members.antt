@@ -1,6 +1,6 @@
 -- Elements of lists, and tests that some element passes.
 use Rattle.std.proofs.Common.{◌≡◌, ℕ, zero, suc, ◌+◌, ◌<◌, ◌≤◌, Bool, true, false, cond, not, ◌&&◌, eqb, ◌⊎◌, List, [], ◌∷◌, ◌++◌, map, Some, None, Option, sym, refl, ap, ◌∙◌, subst, inl, inr, ⊎_elim, arith}
-use Rattle.std.specs.List.{range_with_len, AllByRecursion as All}
+use Rattle.std.specs.List.{range_with_len, AllByRecursion}
 use Rattle.std.specs.List.Sorted.{IsPermutation}
 use Rattle.std.proofs.lemmas.List.Sorted.{IsPermutation-refl, IsPermutation-cons, IsPermutation-trans, IsPermutation-swap}
 use Rattle.std.proofs.lemmas.Bool.{or_left, or_right, or_from, or_cases, or_parts, both_ways, cases_eq, cond-true, cond-false, eq-eqb, ne_eqb, eqb-false, not-true, not_from_true, not_from_false}
@@ -34,12 +34,12 @@ module _ {A : Type 0} where
       go (inl n) = inl (inr n)
       go (inr n) = inr n
 
-  pub all_in : (P : A → Type 0) (x : A) (xs : List A) → All P xs → In x xs → P x
+  pub all_in : (P : A → Type 0) (x : A) (xs : List A) → AllByRecursion P xs → In x xs → P x
   all_in P x [] a m = absurd m
   all_in P x (y ∷ ys) a (inl e) = subst P (sym e) a.0
   all_in P x (y ∷ ys) a (inr m) = all_in P x ys a.1 m
 
-  pub all_from : (P : A → Type 0) (xs : List A) → ((x : A) → In x xs → P x) → All P xs
+  pub all_from : (P : A → Type 0) (xs : List A) → ((x : A) → In x xs → P x) → AllByRecursion P xs
   all_from P [] h = tt
   all_from P (x ∷ xs) h = (h x (inl refl), all_from P xs (λ y m. h y (inr m)))
 

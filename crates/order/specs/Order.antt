@@ -1,6 +1,6 @@
 -- The serial order of commits: who has to stand before whom, the line, and what it promises.
 use Rattle.std.specs.Prelude.{◌≡◌, ℕ, zero, suc, ◌<◌, Bool, false, not, ◌&&◌, ◌||◌, List, [], ◌∷◌, map, length, Some, None, Option, ◌==◌, nat_lt}
-use Rattle.std.specs.List.{range_with_len, AllByRecursion as All}
+use Rattle.std.specs.List.{range_with_len, AllByRecursion}
 use Rattle.std.specs.List.Sorted.{IsPermutation}
 use Rattle.model.specs.declared.Level.TheVariants.{Serial}
 use Rattle.model.specs.Lists.{any, kept}
@@ -54,7 +54,7 @@ line done = lined done (length done) (range_with_len 0 (length done))
 
 -- the reads of each commit that is no Latest see the commits done at its begin
 abbrev pub OneMoment : List Txn → Type 0
-OneMoment done = (n : ℕ) → n < length done → is_latest (nth done n).level ≡ false → All (λ (r : Read). r.at ≡ (nth done n).begin) (nth done n).reads
+OneMoment done = (n : ℕ) → n < length done → is_latest (nth done n).level ≡ false → AllByRecursion (λ (r : Read). r.at ≡ (nth done n).begin) (nth done n).reads
 
 abbrev pub AllSerial : List Txn → Type 0
 AllSerial done = (n : ℕ) → n < length done → (nth done n).level ≡ Serial

@@ -4,7 +4,7 @@ use lib.ListN.{length-map}
 use Rattle.std.proofs.lemmas.List.{take-map, length-take-le, length_push}
 use Rattle.std.proofs.ByRecursion.{All-push, All-take, All-map}
 use Rattle.std.proofs.lemmas.Bool.{cond_both, cond-true, or_parts}
-use Rattle.std.specs.List.{AllByRecursion as All}
+use Rattle.std.specs.List.{AllByRecursion}
 use Rattle.model.specs.declared.Call.{Call}
 use Rattle.model.specs.declared.Call.TheVariants.{Begin, Read, Write, Commit, Abort, Sweep, Sync, Stop, Show}
 use Rattle.model.specs.declared.Entry.{Entry}
@@ -33,7 +33,7 @@ FineLife l = FineCommit l.txn.writes
 
 -- all that was committed or is under way can be in a file
 record Writes (e : Engine) : Type 0 where
-  done : All FineLife e.done
+  done : AllByRecursion FineLife e.done
   under : (i : ℕ) (l : Life) → slot_at i e ≡ Some l → FineLife l
   few : count e ≤ 4294967295
 
@@ -90,7 +90,7 @@ step-fine (Called c) e v w = refused_or_not Writes (refusal_of c e) e (performed
 step-fine (Stopped p) e v w =
     cond_both (leb (bytes_in (take e.synced (txns e))) p) (restarted (whole_in p (txns e)) e) e Writes (λ _. restarted-fine (whole_in p (txns e)) e (whole-done p e) w) (λ _. w)
 
-run-fine : (h : List Event) (e : Engine) → All Small h → Writes e → Writes (run e h)
+run-fine : (h : List Event) (e : Engine) → AllByRecursion Small h → Writes e → Writes (run e h)
 unfolding run
 run-fine [] e v w = w
 run-fine (x ∷ h) e v w = run-fine h (step x e) v.1 (step-fine x e v.0 w)

@@ -3,7 +3,7 @@ use Rattle.std.proofs.Common.{◌≡◌, ℕ, ◌+◌, ◌-◌, ◌*◌, ◌<◌
 use lib.ListN.{length-map}
 use Rattle.std.proofs.lemmas.List.{append-nil, drop_all, drop_at, map_push, take_all}
 use Rattle.std.proofs.lemmas.Bool.{and_from, or_right, or_parts, or_from, lt-ltb, le-ltb, leb-true, leb-false, le-leb, both_ways}
-use Rattle.std.specs.List.{AllByRecursion as All}
+use Rattle.std.specs.List.{AllByRecursion}
 use Rattle.model.specs.declared.Answer.{Answer}
 use Rattle.model.specs.declared.Call.{Call}
 use Rattle.model.specs.declared.Call.TheVariants.{Begin, Read, Write, Commit, Abort, Sweep, Sync, Stop, Show}
@@ -35,7 +35,7 @@ nothing_new e f j same =
       bytes = sym (append-nil (held_of j)) ∙ ap (λ (bs : List ℕ). held_of j ++ bs) (sym bare);
       room = sym zero ∙ ap (λ (bs : List ℕ). room_of j - length bs) (sym bare);
       file = ap (λ (ts : List Txn). file_of (map writes_of ts)) same ∙ sym (append-nil (file_of (writes_in e))) ∙ ap (λ (bs : List ℕ). file_of (writes_in e) ++ bs) (sym bare);
-      fine = subst (All FineCommit) (sym none) tt;
+      fine = subst (AllByRecursion FineCommit) (sym none) tt;
     }
 
 -- one commit more, and its record
@@ -54,7 +54,7 @@ one-new e l i j n es p q r ok done fine =
       room = done.2 ∙ ap (λ (b : Bool). cond b (room_of i - length (record_of n es)) (room_of i)) ok ∙ ap (λ (bs : List ℕ). room_of i - length bs) (sym bare);
       file =
           ap file_of all ∙ file_push 0 (writes_in e) es ∙ ap (λ (k : ℕ). file_of (writes_in e) ++ record_of k es) at ∙ ap (λ (bs : List ℕ). file_of (writes_in e) ++ bs) (sym bare);
-      fine = subst (All FineCommit) (sym one) (fine, tt);
+      fine = subst (AllByRecursion FineCommit) (sym one) (fine, tt);
     }
 
 -- the records are the same where the commits are
@@ -63,7 +63,7 @@ recorded_as e f g i j p r = record {
   bytes = r.bytes ∙ ap (λ (ts : List Txn). held_of i ++ file_from (count e) (drop (count e) (map writes_of ts))) (sym p);
   room = r.room ∙ ap (λ (ts : List Txn). room_of i - length (file_from (count e) (drop (count e) (map writes_of ts)))) (sym p);
   file = ap (λ (ts : List Txn). file_of (map writes_of ts)) p ∙ r.file ∙ ap (λ (ts : List Txn). file_of (writes_in e) ++ file_from (count e) (drop (count e) (map writes_of ts))) (sym p);
-  fine = subst (λ (ts : List Txn). All FineCommit (drop (count e) (map writes_of ts))) (sym p) r.fine;
+  fine = subst (λ (ts : List Txn). AllByRecursion FineCommit (drop (count e) (map writes_of ts))) (sym p) r.fine;
 }
 
 -- no commit, and the commits stay

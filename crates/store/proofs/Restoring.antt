@@ -6,7 +6,7 @@ use lib.ListN.{length-map}
 use Rattle.std.proofs.lemmas.List.{map_push, length_push}
 use Rattle.std.proofs.ByRecursion.{All-push, All-weaker}
 use Rattle.std.proofs.lemmas.Bool.{le-leb, lt-leb}
-use Rattle.std.specs.List.{AllByRecursion as All}
+use Rattle.std.specs.List.{AllByRecursion}
 use Rattle.model.specs.declared.Entry.{Entry}
 use Rattle.model.specs.declared.Refusal.{Refusal}
 use Rattle.model.specs.Lists.{any}
@@ -42,7 +42,7 @@ holds_by : (ts : List Txn) (f : ℕ) (v : Versions) → versions.Holds (map plai
 holds_by ts f v h k l = h k l ∙ ap (swept f) (versions-by k 0 [] ts)
 
 -- the keys of writes that can be are within their bounds
-pub fine-inside : (es : List Entry) → All FineEntry es → outside es ≡ false
+pub fine-inside : (es : List Entry) → AllByRecursion FineEntry es → outside es ≡ false
 unfolding any
 fine-inside [] h = refl
 fine-inside (e ∷ es) h = rw (lt-leb 4096 e.key (let k : e.key ≤ 4095 = h.0.0 in omega arith)) (fine-inside es h.1)

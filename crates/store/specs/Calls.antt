@@ -1,6 +1,6 @@
 -- What each method of the store does, by the engine as the rules have it.
 use Rattle.std.specs.Prelude.{◌≡◌, ℕ, ◌-◌, ◌<◌, ◌≤◌, Bool, true, false, ◌||◌, ◌⊎◌, List, [], ◌∷◌, ◌++◌, map, length, take, drop, Some, None, Ok, Err, vec_items, Option, Result, nat_lt, slice_set}
-use Rattle.std.specs.List.{AllByRecursion as All}
+use Rattle.std.specs.List.{AllByRecursion}
 use Rattle.model.specs.declared.Answer.{Answer}
 use Rattle.model.specs.declared.Answer.TheVariants.{Done, Found, Committed, Shown, Refused}
 use Rattle.model.specs.declared.Call.{Call}
@@ -78,7 +78,7 @@ pub record Recorded (e f : Engine) (i j : Journal) : Type 0 where
   pub bytes : held_of j ≡ held_of i ++ records_in e f
   pub room : room_of j ≡ room_of i - length (records_in e f)
   pub file : file_in f ≡ file_in e ++ records_in e f
-  pub fine : All FineCommit (new_in e f)
+  pub fine : AllByRecursion FineCommit (new_in e f)
 
 abbrev pub lack_in : ℕ → Option Life → Bool
 lack_in room None = false

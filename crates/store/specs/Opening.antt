@@ -1,6 +1,6 @@
 -- Opening a file that is read in pieces.
 use Rattle.std.specs.Prelude.{◌≡◌, ℕ, ◌^◌, ◌<◌, ◌≤◌, true, false, cond, not, ◌&&◌, List, [], ◌∷◌, ◌++◌, map, take, drop, is_some, is_ok, Some, None, Ok, Err, vec_items, Result, ◌==◌}
-use Rattle.std.specs.List.{AllByRecursion as All}
+use Rattle.std.specs.List.{AllByRecursion}
 use Rattle.model.specs.declared.Call.TheVariants.{Begin, Read, Write, Commit, Abort, Sweep, Sync, Stop, Show}
 use Rattle.versions.specs.Store.{spaces}
 use Rattle.journal.specs.Laws.{FineCommits}
@@ -68,7 +68,7 @@ Small (Stopped p) = Unit {0}
 
 -- of such calls a file can hold the commits
 abbrev pub SmallFine : Type 0
-SmallFine = (h : List Event) → All Small h → FineCommits (map writes_of (txns (led h)))
+SmallFine = (h : List Event) → AllByRecursion Small h → FineCommits (map writes_of (txns (led h)))
 
 -- the file of an engine, cut at or behind what was synced, opens as the engine after that stop
 abbrev pub OpensCut : Reader → Store → Store → Type 0

@@ -1,5 +1,5 @@
 use Rattle.std.proofs.Common.{ltb, sym, ap, ◌∙◌, subst, arith}
-use Rattle.std.specs.List.{flat_map, AllByRecursion as All}
+use Rattle.std.specs.List.{flat_map, AllByRecursion}
 use Rattle.std.proofs.ByRecursion.{All-more}
 use Rattle.std.proofs.lemmas.List.{take_all}
 use Rattle.std.proofs.lemmas.Bool.{ltb-false}
@@ -30,5 +30,5 @@ returns c =
     let every = take_all _ c.args.entries.now c.loop-e-test.false in
     record {
       bytes = c.loop-e.invariant.1 ∙ ap (λ l. written c.args.at (flat_map entry_bytes l) c.args.out.now) every;
-      fine = subst (All FineEntry) every c.loop-e.invariant.2;
+      fine = subst (AllByRecursion FineEntry) every c.loop-e.invariant.2;
     }

@@ -1,5 +1,5 @@
 use Rattle.std.proofs.Common.{◌≡◌, ◌+◌, ◌*◌, take}
-use Rattle.std.specs.List.{flat_map, AllByRecursion as All}
+use Rattle.std.specs.List.{flat_map, AllByRecursion}
 use Rattle.journal.specs.Records.{written, entry_bytes, FineEntry}
 use Rattle.journal.proofs.writer.put_entries.Given as goal
 
@@ -7,4 +7,4 @@ abbrev pub invariant-loop-e : goal.invariant-loop-e
 invariant-loop-e l =
     (l.place ≡ l.at + 6 * l.e-index) ×
     (l.out ≡ written l.at (flat_map entry_bytes (take l.e-index l.entries)) l.initial.out) ×
-    All FineEntry (take l.e-index l.entries)
+    AllByRecursion FineEntry (take l.e-index l.entries)
