@@ -49,7 +49,7 @@ pub record Cases : Type 0 where
   pub read : parsed 2 (1 ∷ 0 ∷ 0 ∷ 0 ∷ 2 ∷ 1 ∷ 0 ∷ 7 ∷ 0 ∷ 0 ∷ 0 ∷ 9 ∷ 1 ∷ []) ≡ whole (record { key = 7; value = 9 } ∷ []) 12
   pub none : parsed 0 [] ≡ short
   pub cut_head : parsed 0 (1 ∷ 9 ∷ 9 ∷ 9 ∷ 9 ∷ []) ≡ short
-  pub cut-write : parsed 0 (1 ∷ 9 ∷ 9 ∷ 9 ∷ 9 ∷ 1 ∷ 99 ∷ 0 ∷ 0 ∷ 0 ∷ 0 ∷ []) ≡ short
+  pub cut_write : parsed 0 (1 ∷ 9 ∷ 9 ∷ 9 ∷ 9 ∷ 1 ∷ 99 ∷ 0 ∷ 0 ∷ 0 ∷ 0 ∷ []) ≡ short
   pub kind : parsed 0 (2 ∷ []) ≡ faulty UnknownKind
   pub number : parsed 1 (1 ∷ 0 ∷ 0 ∷ 0 ∷ 2 ∷ 0 ∷ []) ≡ faulty WrongNumber
   pub writes : parsed 0 (1 ∷ 0 ∷ 0 ∷ 0 ∷ 0 ∷ 65 ∷ replicate 390 255) ≡ faulty TooManyWrites
