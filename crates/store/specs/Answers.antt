@@ -68,5 +68,6 @@ AnswersReady Unknown s t a = (t ≡ s) × (reply_of a ≡ refused BadLine)
 
 pub record AnswersTo (q : Request) (s t : Store) (a : Answer) : Type 0 where
   pub ready : ready_of t ≡ ready_of s
+  pub stage : t.stage ≡ s.stage
   pub engine : ready_of s ≡ true → AnswersReady q s.tables.now t.tables.now a
   pub none : ready_of s ≡ false → (t.tables.now ≡ s.tables.now) × (reply_of a ≡ refused (unready_refusal q))
