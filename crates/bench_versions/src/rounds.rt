@@ -11,37 +11,29 @@ const LENGTH: usize = 32768;
 
 // The writes of a round, two to a commit, and its looks: a key, and how many commits are done.
 #[derive(Drop)]
-pub struct Lists {
+struct Lists {
     writes: Vec<Entry>,
     looks: Vec<Entry>,
 }
 
 impl Lists {
-    pub fn new(heap: Global) -> Result<Lists, AllocError> {
-        let none = Entry { key: 0, value: 0 };
+    fn new(heap: Global) -> Result<Lists, AllocError> {
         Ok(Lists {
-            writes: vec![in heap; none; LENGTH]?,
-            looks: vec![in heap; none; LENGTH]?,
+            writes: vec![in heap; Entry::default(); LENGTH]?,
+            looks: vec![in heap; Entry::default(); LENGTH]?,
         })
     }
 }
 
-// What goes on from round to round.
-#[derive(Clone, Copy)]
-pub struct State {
+// The versions, and what goes on from round to round.
+#[derive(Drop)]
+pub struct Bench<'b, 'v> {
+    rt: &'b HostRuntime,
+    versions: &'b mut Versions<'v>,
+    lists: Lists,
     dice: Dice,
     number: u32,
-    pub sum: u32,
-}
-
-impl State {
-    pub fn new() -> State {
-        State {
-            dice: Dice::new(),
-            number: 0,
-            sum: 0,
-        }
-    }
+    sum: u32,
 }
 
 // Picoseconds for one call of each.
@@ -77,80 +69,71 @@ fn each(rt: &HostRuntime, start: Instant, calls: u32) -> io::Result<u64> {
     )
 }
 
-fn time_fill(
-    rt: &HostRuntime,
-    versions: &mut Versions,
-    writes: &mut [Entry],
-    state: &mut State,
-) -> io::Result<u64> {
-    deal_writes(&mut state.dice, writes);
-    let first = state.number;
-    let start = Instant::now(rt)?;
-    let number = fill(versions, writes, first);
-    let time = each(rt, start, number.wrapping_sub(first))?;
-    state.number = top_up(versions, number);
-    state.sum = mixed(state.sum, versions.count());
-    Ok(time)
-}
-
-fn time_look(
-    rt: &HostRuntime,
-    versions: &Versions,
-    looks: &mut [Entry],
-    state: &mut State,
-) -> io::Result<u64> {
-    deal_looks(&mut state.dice, looks, state.number);
-    let start = Instant::now(rt)?;
-    let seen = look(versions, looks);
-    let time = each(rt, start, LENGTH as u32)?;
-    state.sum = mixed(state.sum, seen);
-    Ok(time)
-}
-
-fn time_sweep(
-    rt: &HostRuntime,
-    versions: &mut Versions,
-    floor: u32,
-    state: &mut State,
-) -> io::Result<u64> {
-    let start = Instant::now(rt)?;
-    versions.sweep(floor);
-    let time = each(rt, start, 1)?;
-    state.sum = mixed(state.sum, versions.count());
-    Ok(time)
-}
-
-// Fills up the versions, looks, and sweeps twice: once so that all stay, and once so that one for each key does.
-fn round(
-    rt: &HostRuntime,
-    versions: &mut Versions,
-    lists: &mut Lists,
-    state: &mut State,
-) -> io::Result<Times> {
-    let commit = time_fill(rt, versions, lists.writes.as_mut_slice(), state)?;
-    let look = time_look(rt, versions, lists.looks.as_mut_slice(), state)?;
-    let copy = time_sweep(rt, versions, 0, state)?;
-    let floor = state.number;
-    let sweep = time_sweep(rt, versions, floor, state)?;
-    Ok(Times {
-        look,
-        commit,
-        copy,
-        sweep,
-    })
-}
-
-// So many rounds, and the lowest times.
-pub fn run_rounds(
-    rt: &HostRuntime,
-    versions: &mut Versions,
-    lists: &mut Lists,
-    state: &mut State,
-    rounds: u32,
-) -> io::Result<Times> {
-    let mut times = round(rt, versions, lists, state)?;
-    for _ in 1..rounds {
-        times = times.lower(round(rt, versions, lists, state)?);
+impl<'b, 'v> Bench<'b, 'v> {
+    pub fn new(
+        rt: &'b HostRuntime,
+        versions: &'b mut Versions<'v>,
+    ) -> Result<Bench<'b, 'v>, AllocError> {
+        Ok(Bench {
+            rt,
+            versions,
+            lists: Lists::new(rt.alloc())?,
+            dice: Dice::new(),
+            number: 0,
+            sum: 0,
+        })
     }
-    Ok(times)
+}
+
+impl Bench<'_, '_> {
+    pub fn sum(&self) -> u32 {
+        self.sum
+    }
+
+    fn fill(&mut self) -> io::Result<u64> {
+        deal_writes(&mut self.dice, self.lists.writes.as_mut_slice());
+        let first = self.number;
+        let start = Instant::now(self.rt)?;
+        let number = fill(self.versions, &self.lists.writes, first);
+        let time = each(self.rt, start, number.wrapping_sub(first))?;
+        self.number = top_up(self.versions, number);
+        self.sum = mixed(self.sum, self.versions.count());
+        Ok(time)
+    }
+
+    fn look(&mut self) -> io::Result<u64> {
+        deal_looks(&mut self.dice, self.lists.looks.as_mut_slice(), self.number);
+        let start = Instant::now(self.rt)?;
+        let seen = look(self.versions, &self.lists.looks);
+        let time = each(self.rt, start, LENGTH as u32)?;
+        self.sum = mixed(self.sum, seen);
+        Ok(time)
+    }
+
+    fn sweep(&mut self, floor: u32) -> io::Result<u64> {
+        let start = Instant::now(self.rt)?;
+        self.versions.sweep(floor);
+        let time = each(self.rt, start, 1)?;
+        self.sum = mixed(self.sum, self.versions.count());
+        Ok(time)
+    }
+
+    // Fills up the versions, looks, and sweeps twice: once so that all stay, and once so that one for each key does.
+    fn round(&mut self) -> io::Result<Times> {
+        Ok(Times {
+            commit: self.fill()?,
+            look: self.look()?,
+            copy: self.sweep(0)?,
+            sweep: self.sweep(self.number)?,
+        })
+    }
+
+    // So many rounds, and the lowest times.
+    pub fn run(&mut self, rounds: u32) -> io::Result<Times> {
+        let mut times = self.round()?;
+        for _ in 1..rounds {
+            times = times.lower(self.round()?);
+        }
+        Ok(times)
+    }
 }

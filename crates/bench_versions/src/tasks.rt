@@ -74,9 +74,7 @@ pub fn top_up(versions: &mut Versions, number: u32) -> u32 {
 }
 
 pub fn look(versions: &Versions, looks: &[Entry]) -> u32 {
-    let mut sum = 0;
-    for l in looks {
-        sum = mixed(sum, versions.shown(l.key, l.value));
-    }
-    sum
+    looks
+        .iter()
+        .fold(0, |sum, l| mixed(sum, versions.shown(l.key, l.value)))
 }

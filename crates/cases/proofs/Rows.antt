@@ -1,11 +1,9 @@
 -- Every row of the table comes out.
 use Rattle.std.proofs.Common.{refl}
-use Rattle.model.specs.Lists.{any, kept}
 use Rattle.model.specs.Transactions.{puts, after, found_from}
 use Rattle.model.specs.Commits.{numbered}
 use Rattle.model.specs.Versions.{versions_from, swept, keys_of}
 use Rattle.versions.specs.Chain.{total, sum_to}
-use Rattle.conflicts.specs.Marks.{lowest}
 use Rattle.history.specs.Engine.{floor_in, bytes_in, whole_in, run}
 use Rattle.order.specs.Order.{lined}
 use Rattle.cases.specs.Rows.{answers_from, ComesOut}
@@ -14,7 +12,7 @@ use Rattle.cases.proofs.Stops.{stop_leaves}
 
 -- by computation, but for what a stop may leave
 pub every_row : EveryRow
-unfolding any kept puts after found_from numbered versions_from swept keys_of total sum_to lowest floor_in bytes_in whole_in run lined answers_from
+unfolding puts after found_from numbered versions_from swept keys_of total sum_to floor_in bytes_in whole_in run lined answers_from
 every_row =
     let a : ComesOut write_skew = (refl, (refl, tt)) in
     let b : ComesOut write_skew_let = (refl, tt) in

@@ -5,7 +5,6 @@ use Rattle.std.proofs.lemmas.List.{take_more, take_all, take-take, take-append-l
 use Rattle.std.proofs.lemmas.Bool.{cases_Bool, cases_lt, le-leb}
 use Rattle.model.specs.declared.Level.{Level}
 use Rattle.model.specs.declared.Level.TheVariants.{Latest, Snapshot, Serial}
-use Rattle.model.specs.Lists.{any}
 use Rattle.model.specs.Transactions.{Txn, is_serial, is_latest, began, both_write}
 use Rattle.model.specs.Commits.{Commit, numbered, commits, unseen, has_pivot, wrote_since, verdict}
 use Rattle.conflicts.specs.Marks.{judged}
@@ -48,7 +47,7 @@ first_wins done h i j l m b e =
     ∙ sym (ap (λ z. z && both_write t.writes (nth ts i).writes) u) ∙ a
 
 no_pivot_yet : has_pivot [] ≡ false
-unfolding any numbered
+unfolding numbered
 no_pivot_yet = refl
 
 -- with one more that the rules allow there is still no pivot

@@ -10,7 +10,7 @@ use Rattle.conflicts.proofs.Numbers.{commit}
 
 -- none of those from the floor on is forgotten
 from-recent : (ds : List Commit) (g : ℕ) (xs : List Commit) → from_floor g (map (mark_among ds) (kept (recent g) xs)) ≡ map (mark_among ds) (kept (recent g) xs)
-unfolding from_floor kept
+unfolding from_floor
 from-recent ds g [] = refl
 from-recent ds g (x ∷ xs) = go (recent g x) refl (from-recent ds g xs)
   where
@@ -23,7 +23,7 @@ from-recent ds g (x ∷ xs) = go (recent g x) refl (from-recent ds g xs)
 
 -- from number n on both floors keep the same
 same-late : (f g n : ℕ) (ts : List Txn) → f ≤ n → g ≤ n → kept (recent f) (numbered n ts) ≡ kept (recent g) (numbered n ts)
-unfolding kept numbered
+unfolding numbered
 same-late f g n [] p q = refl
 same-late f g n (t ∷ ts) p q =
     let ih = same-late f g (suc n) ts (omega arith) (omega arith) in
@@ -37,7 +37,7 @@ dropped ds g n t true xs l = ap (λ z. cond z (from_floor g (map (mark_among ds)
 dropped ds g n t false xs l = refl
 
 forgotten : (ds : List Commit) (f g : ℕ) → f ≤ g → (n : ℕ) (ts : List Txn) → from_floor g (map (mark_among ds) (kept (recent f) (numbered n ts))) ≡ map (mark_among ds) (kept (recent g) (numbered n ts))
-unfolding from_floor kept numbered
+unfolding from_floor numbered
 forgotten ds f g h n [] = refl
 forgotten ds f g h n (t ∷ ts) =
     let xs = kept (recent f) (numbered (suc n) ts) in
@@ -52,7 +52,7 @@ pub forgets : (done : List Txn) (f g : ℕ) → f ≤ g → from_floor g (held_o
 forgets done f g h = forgotten (commits done) f g h 0 done
 
 none_from : (g n : ℕ) (ts : List Txn) → n + length ts ≤ g → kept (recent g) (numbered n ts) ≡ []
-unfolding kept numbered
+unfolding numbered
 none_from g n [] h = refl
 none_from g n (t ∷ ts) h =
     ap (λ z. cond z (commit n t ∷ kept (recent g) (numbered (suc n) ts)) (kept (recent g) (numbered (suc n) ts))) (and_right (is_serial t.level) (leb g n) (lt-leb g n (omega arith)))

@@ -1,29 +1,14 @@
 -- Loops over what is kept, seen as marks.
-use Rattle.std.proofs.Common.{◌≡◌, ℕ, ◌+◌, ◌-◌, ◌<◌, ◌≤◌, Bool, true, false, cond, ltb, List, ◌∷◌, ◌++◌, map, length, get_or, take, drop, set, Some, None, sym, ap, ◌∙◌, arith}
-use Rattle.std.proofs.lemmas.List.{at_drop_more, at_drop_all, length-map, map-set, take_all, drop_all, append-nil, drop-map, take_at, length-drop}
+use Rattle.std.proofs.Common.{◌≡◌, ℕ, ◌+◌, ◌<◌, ◌≤◌, Bool, true, false, not, cond, leb, List, [], ◌∷◌, ◌++◌, map, length, get_or, take, drop, set, Some, None, sym, refl, ap, ◌∙◌, option_map, unwrap_or, Option, ⊎_elim, one-add, arith}
+use Rattle.std.specs.List.{position, position_or_len, find}
+use Rattle.std.proofs.lemmas.List.{length-map, map-set, get_or-map, take_all, drop_all, append-nil}
 use Rattle.std.proofs.lemmas.List.Edits.{map_over_more}
-use Rattle.std.proofs.lemmas.Bool.{lt-ltb, le-ltb}
-use Rattle.transactions.proofs.Places.{found_at}
+use Rattle.std.proofs.lemmas.List.Sums.{prefix_len-le-length}
+use Rattle.std.proofs.lemmas.Bool.{lt-ltb, le-ltb, lt-leb, le-leb, cases_lt}
 use Rattle.conflicts.specs.Marks.{Mark, lowest, from_floor}
 
--- a loop that stops at the first that passes a test
-module _ {X Y : Type 0} (num : Y → ℕ) (p : Y → Bool) (f : X → Y) (xs : List X) (i : ℕ) where
-  pub lowest-more : (x a : X) → i < length xs → x ≡ get_or xs i a → lowest num p (drop i (map f xs)) ≡ cond (p (f x)) (Some (num (f x))) (lowest num p (drop (i + 1) (map f xs)))
-  unfolding lowest
-  lowest-more x a l e =
-      let l' : i < length (map f xs) = rw length-map l in
-      at_drop_more (lowest num p) (map f xs) i (f x) l'
-      ∙ ap (λ y. cond (p y) (Some (num y)) (lowest num p (drop (i + 1) (map f xs)))) (found_at f xs i x a l e (f x))
-
-  pub lowest-here : (x a : X) → i < length xs → x ≡ get_or xs i a → lowest num p (map f xs) ≡ lowest num p (drop i (map f xs)) → p (f x) ≡ true → Some (num (f x)) ≡ lowest num p (map f xs)
-  lowest-here x a l e inv h = sym (inv ∙ lowest-more x a l e ∙ ap (λ b. cond b (Some (num (f x))) (lowest num p (drop (i + 1) (map f xs)))) h)
-
-  pub lowest-on : (x a : X) → i < length xs → x ≡ get_or xs i a → lowest num p (map f xs) ≡ lowest num p (drop i (map f xs)) → p (f x) ≡ false → lowest num p (map f xs) ≡ lowest num p (drop (i + 1) (map f xs))
-  lowest-on x a l e inv h = inv ∙ lowest-more x a l e ∙ ap (λ b. cond b (Some (num (f x))) (lowest num p (drop (i + 1) (map f xs)))) h
-
-  pub lowest-none : length xs ≤ i → lowest num p (map f xs) ≡ lowest num p (drop i (map f xs)) → None ≡ lowest num p (map f xs)
-  unfolding lowest
-  lowest-none l inv = let m : length (map f xs) ≤ i = rw length-map l in sym (inv ∙ at_drop_all (lowest num p) (map f xs) i m)
+found_at : {S R : Type 0} (f : S → R) (ss : List S) (i : ℕ) (x a : S) → i < length ss → x ≡ get_or ss i a → (d : R) → get_or (map f ss) i d ≡ f x
+found_at f ss i x a l e d = get_or-map f ss i a d l ∙ ap f (sym e)
 
 -- a loop that changes each in turn: xs before it, ys now
 module _ {X Y : Type 0} (f : X → Y) (g : Y → Y) (xs ys : List X) (i : ℕ) (inv : map f ys ≡ map g (take i (map f xs)) ++ drop i (map f xs)) where
@@ -40,31 +25,49 @@ module _ {X Y : Type 0} (f : X → Y) (g : Y → Y) (xs ys : List X) (i : ℕ) (
       let b = drop_all i (map f xs) m in
       let d = append-nil (map g (map f xs)) in cc
 
--- a loop that passes over those below the floor
-module _ {X : Type 0} (h : X → Mark) (f : ℕ) (xs : List X) (i : ℕ) (inv : from_floor f (map h xs) ≡ from_floor f (drop i (map h xs))) where
-  from_more : (x a : X) → i < length xs → x ≡ get_or xs i a → from_floor f (map h xs) ≡ cond (ltb (h x).number f) (from_floor f (drop (i + 1) (map h xs))) (h x ∷ drop (i + 1) (map h xs))
-  unfolding from_floor
-  from_more x a l e =
-      let l' : i < length (map h xs) = rw length-map l in
-      inv ∙ at_drop_more (from_floor f) (map h xs) i (h x) l'
-      ∙ ap (λ (y : Mark). cond (ltb y.number f) (from_floor f (drop (i + 1) (map h xs))) (y ∷ drop (i + 1) (map h xs))) (found_at h xs i x a l e (h x))
+-- the place of the first that passes, or how many there are
+place_is : {X : Type 0} (p : X → Bool) (xs : List X) → unwrap_or (position p xs) (length xs) ≡ position_or_len p xs
+place_is p xs =
+    let n = position_or_len p xs in
+    let l = prefix_len-le-length (λ x. not (p x)) xs in
+    ⊎_elim
+    (λ m. ap (λ b. unwrap_or (cond b (Some n) None) (length xs)) (lt-ltb n (length xs) m))
+    (λ m. ap (λ b. unwrap_or (cond b (Some n) None) (length xs)) (le-ltb n (length xs) m) ∙ (omega arith))
+    (cases_lt n (length xs))
 
-  pub from_on : (x a : X) → i < length xs → x ≡ get_or xs i a → (h x).number < f → from_floor f (map h xs) ≡ from_floor f (drop (i + 1) (map h xs))
-  from_on x a l e b = from_more x a l e ∙ ap (λ z. cond z (from_floor f (drop (i + 1) (map h xs))) (h x ∷ drop (i + 1) (map h xs))) (lt-ltb (h x).number f b)
+-- those from the floor on stand behind as many as are below it at the front
+from_place : {X : Type 0} (h : X → Mark) (f : ℕ) (xs : List X) → from_floor f (map h xs) ≡ map h (drop (position_or_len (λ x. leb f (h x).number) xs) xs)
+unfolding from_floor
+from_place h f [] = refl
+from_place {X = X} h f (x ∷ xs) =
+    ⊎_elim
+    (λ l.
+    ap (λ z. cond z (from_floor f (map h xs)) (h x ∷ map h xs)) (lt-ltb (h x).number f l) ∙ from_place h f xs
+    ∙ sym (ap (λ n. map h (drop n (x ∷ xs))) (ap (λ z. cond (not z) (1 + there) 0) (lt-leb f (h x).number l) ∙ one-add there)))
+    (λ l.
+    ap (λ z. cond z (from_floor f (map h xs)) (h x ∷ map h xs)) (le-ltb (h x).number f l)
+    ∙ sym (ap (λ z. map h (drop (cond (not z) (1 + there) 0) (x ∷ xs))) (le-leb f (h x).number l)))
+    (cases_lt (h x).number f)
+  where
+    there : ℕ
+    there = position_or_len (λ x. leb f (h x).number) xs
 
-  pub from-here : (x a : X) → i < length xs → x ≡ get_or xs i a → f ≤ (h x).number → from_floor f (map h xs) ≡ map h (drop i xs)
-  from-here x a l e b =
-      let l' : i < length (map h xs) = rw length-map l in
-      from_more x a l e ∙ ap (λ z. cond z (from_floor f (drop (i + 1) (map h xs))) (h x ∷ drop (i + 1) (map h xs))) (le-ltb (h x).number f b)
-      ∙ sym (at_drop_more (λ l. l) (map h xs) i (h x) l' ∙ ap (λ y. y ∷ drop (i + 1) (map h xs)) (found_at h xs i x a l e (h x)))
-      ∙ drop-map h i xs
+pub from_first : {X : Type 0} (h : X → Mark) (f : ℕ) (xs : List X) → from_floor f (map h xs) ≡ map h (drop (unwrap_or (position (λ x. leb f (h x).number) xs) (length xs)) xs)
+from_first h f xs = from_place h f xs ∙ sym (ap (λ n. map h (drop n xs)) (place_is (λ x. leb f (h x).number) xs))
 
-  pub from_all : length xs ≤ i → from_floor f (map h xs) ≡ map h (drop i xs)
-  unfolding from_floor
-  from_all l =
-      let m : length (map h xs) ≤ i = rw length-map l in
-      inv ∙ at_drop_all (from_floor f) (map h xs) i m ∙ sym (ap (map h) (drop_all i xs l))
+pub map_both : {X Y Z : Type 0} (g : Y → Z) (f : X → Y) (o : Option X) → option_map g (option_map f o) ≡ option_map (λ x. g (f x)) o
+map_both g f None = refl
+map_both g f (Some x) = refl
 
--- turned to the left by i and cut behind, the first i are gone
-pub cut-front : {X : Type 0} (xs : List X) (i : ℕ) → take (length xs - i) (drop i xs ++ take i xs) ≡ drop i xs
-cut-front xs i = take_at (drop i xs) (take i xs) (length xs - i) (length-drop i xs)
+-- the first mark that passes a test
+module _ {X Y : Type 0} (p : Y → Bool) (f : X → Y) where
+  pub find_map : (xs : List X) → find p (map f xs) ≡ option_map f (find (λ x. p (f x)) xs)
+  find_map [] = refl
+  find_map (x ∷ xs) = go (p (f x)) (find_map xs)
+    where
+      go : (b : Bool) → find p (map f xs) ≡ option_map f (find (λ x. p (f x)) xs) → cond b (Some (f x)) (find p (map f xs)) ≡ option_map f (cond b (Some x) (find (λ x. p (f x)) xs))
+      go true ih = refl
+      go false ih = ih
+
+  pub lowest_map : (num : Y → ℕ) (xs : List X) → lowest num p (map f xs) ≡ lowest (λ x. num (f x)) (λ x. p (f x)) xs
+  lowest_map num xs = ap (option_map num) (find_map xs) ∙ map_both num f (find (λ x. p (f x)) xs)

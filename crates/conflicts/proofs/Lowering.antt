@@ -6,7 +6,7 @@ use Rattle.model.specs.Commits.{Commit, numbered, commits}
 use Rattle.conflicts.specs.Marks.{lowest}
 use Rattle.conflicts.specs.Held.{commit_number}
 use Rattle.conflicts.specs.Laws.{nth, commit_at, Lowest}
-use Rattle.conflicts.proofs.Firsts.{some_lowest}
+use Rattle.conflicts.proofs.Firsts.{some_lowest, lowest_step}
 use Rattle.conflicts.proofs.Numbers.{commit}
 
 -- the i-th of those numbered from n on passes the test, and none before it does
@@ -18,9 +18,9 @@ record First (p : Commit → Bool) (n : ℕ) (ts : List Txn) (k : ℕ) : Type 0 
   before : (j : ℕ) → j < place → p (commit (n + j) (nth ts j)) ≡ false
 
 first-from : (p : Commit → Bool) (n : ℕ) (ts : List Txn) (k : ℕ) → lowest commit_number p (numbered n ts) ≡ Some k → First p n ts k
-unfolding lowest numbered
+unfolding numbered
 first-from p n [] k e = let z : ◌≡◌ {A = ℕ} 0 1 = cc in absurd (omega arith)
-first-from p n (t ∷ ts) k e = go (p (commit n t)) refl e (first-from p (suc n) ts k)
+first-from p n (t ∷ ts) k e = go (p (commit n t)) refl (sym (lowest_step commit_number p (commit n t) (numbered (suc n) ts)) ∙ e) (first-from p (suc n) ts k)
   where
     later : p (commit n t) ≡ false → (m : First p (suc n) ts k) (j : ℕ) → j < suc m.place → p (commit (n + j) (nth (t ∷ ts) j)) ≡ false
     later q m zero l = let z : n ≡ n + 0 = omega arith in ap (λ i. p (commit i t)) (sym z) ∙ q

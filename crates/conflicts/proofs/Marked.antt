@@ -1,15 +1,18 @@
 -- The marks of the commits from a floor on, with one commit more.
 use Rattle.std.proofs.Common.{◌≡◌, ℕ, ◌≤◌, Bool, true, false, cond, ◌&&◌, ◌||◌, leb, List, [], ◌∷◌, ◌++◌, map, length, is_some, sym, refl, ap, ◌∙◌, ⊎_elim, arith}
 use Rattle.std.specs.List.{AllByRecursion}
+use Rattle.std.proofs.Math.Bool.{or-false}
 use Rattle.std.proofs.lemmas.Bool.{le-leb, lt-leb, leb-false, ne_eqb, and_parts, and_cases, and_from}
 use Rattle.std.proofs.lemmas.List.{append-nil, map_push}
+use Rattle.std.proofs.lemmas.Simd.{map-map}
+use Rattle.std.proofs.lemmas.List.Elements.{filter-append}
 use Rattle.model.specs.Lists.{any, kept}
 use Rattle.model.specs.Transactions.{Txn, is_serial}
 use Rattle.model.specs.Commits.{Commit, commits, unseen, passes, is_pivot, has_pivot}
 use Rattle.conflicts.specs.Marks.{lowest, since, mark_number, is_passed, is_passing, turns, would_pivot, remarked, new_mark, taken_in}
 use Rattle.conflicts.specs.Held.{commit_number, mark_among, recent, held_of, Timely}
-use Rattle.conflicts.proofs.Bools.{or_false, turned, since-not}
-use Rattle.conflicts.proofs.Firsts.{any_push, lowest_push, some_lowest, kept_push, none_passes, all_both, any_same, any-nobody, map-kept, lowest-kept, any-kept, map-map}
+use Rattle.conflicts.proofs.Bools.{turned, since-not}
+use Rattle.conflicts.proofs.Firsts.{any_push, lowest_push, some_lowest, none_passes, all_both, any_same, any-nobody, map-kept, lowest-kept, any-kept}
 use Rattle.conflicts.proofs.Numbers.{commit, commits_push, Before, before-all}
 use Rattle.conflicts.proofs.Passing.{serial, of_earlier, of_later, not-serial, other-not-serial, saw, was-seen, myself}
 
@@ -22,7 +25,7 @@ lowest_as_was : (p : Commit → Bool) (ds : List Commit) (d : Commit) → p d �
 lowest_as_was p ds d e = lowest_push commit_number p ds d ∙ ap (λ b. since (lowest commit_number p ds) b d.number) e ∙ since-not (lowest commit_number p ds) d.number
 
 any_as_was : (p : Commit → Bool) (ds : List Commit) (d : Commit) → p d ≡ false → any p (ds ++ (d ∷ [])) ≡ any p ds
-any_as_was p ds d e = any_push p ds d ∙ ap (λ b. any p ds || b) e ∙ or_false (any p ds)
+any_as_was p ds d e = any_push p ds d ∙ ap (λ b. any p ds || b) e ∙ or-false (any p ds)
 
 -- t, a Serial, commits as number n
 module _ (n : ℕ) (t : Txn) (b : t.begin ≤ n) (s : is_serial t.level ≡ true) (f : ℕ) (late : f ≤ t.begin) where
@@ -73,9 +76,9 @@ module _ (n : ℕ) (t : Txn) (b : t.begin ≤ n) (s : is_serial t.level ≡ true
         let o = out-now in
         let i = into-now in
         let last : mark_among more d ≡ new_mark t n (held_of f ds) = cc in
-        ap (map (mark_among more)) (kept_push (recent f) ds d ∙ ap (λ z. kept (recent f) ds ++ cond z (d ∷ []) []) r)
+        ap (map (mark_among more)) (filter-append (recent f) ds (d ∷ []) ∙ ap (λ z. kept (recent f) ds ++ cond z (d ∷ []) []) r)
         ∙ map_push (mark_among more) (kept (recent f) ds) d
-        ∙ ap (λ l. l ++ (mark_among more d ∷ [])) (map-kept (recent f) (Before n) (mark_among more) (λ a. remarked t n (mark_among ds a)) remark_one ds h ∙ map-map (remarked t n) (mark_among ds) (kept (recent f) ds))
+        ∙ ap (λ l. l ++ (mark_among more d ∷ [])) (map-kept (recent f) (Before n) (mark_among more) (λ a. remarked t n (mark_among ds a)) remark_one ds h ∙ sym (map-map (remarked t n) (mark_among ds) (kept (recent f) ds)))
         ∙ ap (λ m. map (remarked t n) (held_of f ds) ++ (m ∷ [])) last
 
     abbrev Free : Commit → Type 0
@@ -121,7 +124,7 @@ module _ (n : ℕ) (t : Txn) (s : is_serial t.level ≡ false) (ds : List Commit
   pub held-other : (f : ℕ) → held_of f more' ≡ held_of f ds
   held-other f =
       let r : recent f d' ≡ false = ap (λ z. z && leb f n) s in
-      ap (map (mark_among more')) (kept_push (recent f) ds d' ∙ ap (λ z. kept (recent f) ds ++ cond z (d' ∷ []) []) r ∙ append-nil (kept (recent f) ds))
+      ap (map (mark_among more')) (filter-append (recent f) ds (d' ∷ []) ∙ ap (λ z. kept (recent f) ds ++ cond z (d' ∷ []) []) r ∙ append-nil (kept (recent f) ds))
       ∙ map-kept (recent f) (Before n) (mark_among more') (mark_among ds)
       (λ a h e.
       let o = lowest_as_was (passes a) ds d' (out_no a) in

@@ -1,50 +1,39 @@
 -- Those in front whose numbers are below a begin: who began there saw them, and they do not count.
-use Rattle.std.proofs.Common.{◌≡◌, ℕ, zero, suc, ◌+◌, ◌-◌, ◌<◌, ◌≤◌, Bool, false, cond, ◌&&◌, ◌||◌, List, [], ◌∷◌, ◌++◌, map, length, get_or, take, drop, is_some, Some, sym, refl, ap, ◌∙◌, subst, arith}
+use Rattle.std.proofs.Common.{◌≡◌, ℕ, zero, suc, ◌-◌, ◌<◌, ◌≤◌, Bool, true, false, ltb, cond, ◌&&◌, ◌||◌, List, [], ◌∷◌, ◌++◌, map, length, get_or, take, drop, is_some, Some, sym, refl, ap, ◌∙◌, subst, arith}
 use borrow.Rule.Slice.PartMut.{put_mid}
-use Rattle.std.specs.List.{AllByRecursion}
-use Rattle.std.proofs.lemmas.List.{drop-map, map_push, map-append, get_or_default, get_or-map, length-map, take_rest, drop_all, drop_more, append-nil, length-drop}
-use Rattle.std.proofs.lemmas.List.Sorted.{IsNonDecreasingBy-from_all_adjacent, all_adjacent_from_non_decreasing, IsNonDecreasingBy-drop, IsNonDecreasingBy-push}
-use Rattle.std.proofs.lemmas.Bool.{lt-leb}
+use Rattle.std.specs.List.{AllWithin}
+use Rattle.std.specs.List.Sorted.{IsNonDecreasingBy}
+use Rattle.std.proofs.lemmas.List.{drop-map, map_push, map-append, get_or-map, length-map, take_rest, drop_all, append-nil, length-drop}
+use Rattle.std.proofs.lemmas.Simd.{map-map}
+use Rattle.std.proofs.lemmas.List.Sorted.{IsNonDecreasingBy-drop}
+use Rattle.std.proofs.lemmas.Bool.{lt-leb, ltb-true}
 use Rattle.model.specs.Lists.{any}
 use Rattle.model.specs.Transactions.{Txn, reads_some}
 use Rattle.conflicts.specs.declared.window.Committed.{Committed}
 use Rattle.conflicts.specs.Marks.{Mark, lowest, since, mark_of, mark_number, is_passed, is_passing, turns, would_pivot, remarked, new_mark, taken_in}
-use Rattle.conflicts.specs.Rising.{number_of, Rise, FrontBelow, RestFrom}
+use Rattle.conflicts.specs.Rising.{number_of, Rise, FrontBelow}
 use Rattle.conflicts.proofs.Bools.{since-not}
-use Rattle.conflicts.proofs.Firsts.{some_lowest, map-map}
+use Rattle.conflicts.proofs.Firsts.{some_lowest, lowest_step}
 
--- numbers that rise, up to one below b
-all-front : (b : ℕ) (ns : List ℕ) (r : ℕ) → r ≤ length ns → ((k : ℕ) → k < r → get_or ns k 0 < b) → AllByRecursion (λ n. n < b) (take r ns)
-all-front b ns zero l h = tt
-all-front b [] (suc r) l h = tt
-all-front b (n ∷ ns) (suc r) l h = (h 0 (omega arith), all-front b ns r (omega arith) (λ k m. h (suc k) (omega arith)))
+-- the numbers of what is held rise with it
+pub rises_by : (cs : List Committed) → Rise (map number_of cs) → IsNonDecreasingBy number_of cs
+rises_by cs up i j d l m =
+    let a = up i j 0 l (omega (arith, length-map cs number_of)) in
+    omega (arith, get_or-map number_of cs i d 0 (omega arith), get_or-map number_of cs j d 0 m)
 
-pub front_below : (b : ℕ) (cs : List Committed) (r : ℕ) → Rise (map number_of cs) → r ≤ length (map number_of cs) → (0 < r → get_or (map number_of cs) (r - 1) 0 < b) → FrontBelow b r cs
-front_below b cs r up l last =
-    all-front b (map number_of cs) r l (λ k m.
-    let at : get_or (map number_of cs) k 0 ≤ get_or (map number_of cs) (r - 1) 0 = IsNonDecreasingBy-from_all_adjacent (λ n. n) (map number_of cs) up k (r - 1) 0 (omega arith) (omega arith) in
-    let end = last (omega arith) in
-    omega arith)
-
--- a loop back over numbers of at least b
-pub rest-none : (b : ℕ) (cs : List Committed) → RestFrom b (length cs) cs
-rest-none b cs = subst (AllByRecursion (λ n. b ≤ n)) (sym (drop_all (length cs) (map number_of cs) (omega (arith, length-map cs number_of)))) tt
-
-pub rest_more : (b : ℕ) (cs : List Committed) (r : ℕ) → 0 < r → r ≤ length cs → (a : Committed) → b ≤ (get_or cs (r - 1) a).number → RestFrom b r cs → RestFrom b (r - 1) cs
-rest_more b cs r p l a h rest =
-    let ns = map number_of cs in
-    let same = get_or-map number_of cs (r - 1) a 0 (omega arith) in
-    let next : r ≡ r - 1 + 1 = omega arith in
-    subst (AllByRecursion (λ n. b ≤ n)) (sym (drop_more ns (r - 1) 0 (omega (arith, length-map cs number_of)))) (omega arith, subst (λ k. AllByRecursion (λ n. b ≤ n) (drop k ns)) next rest)
-
-pub rise_push : (ns : List ℕ) (n : ℕ) → Rise ns → (0 < length ns → get_or ns (length ns - 1) 0 ≤ n) → Rise (ns ++ (n ∷ []))
-rise_push ns n up last =
-    all_adjacent_from_non_decreasing (λ k. k) (ns ++ (n ∷ [])) (IsNonDecreasingBy-push (λ k. k) ns n (IsNonDecreasingBy-from_all_adjacent (λ k. k) ns up) (λ d l. let same = get_or_default ns (length ns - 1) d 0 (omega arith) in let end = last l in omega arith))
+pub last_number : (cs : List Committed) (n : ℕ) → ((c : Committed) → 0 < length cs → (get_or cs (length cs - 1) c).number ≤ n) → (d : ℕ) → 0 < length (map number_of cs) → get_or (map number_of cs) (length (map number_of cs) - 1) d ≤ n
+last_number [] n h d l = absurd (omega arith)
+last_number (c ∷ cs) n h d l =
+    let k : length (map number_of (c ∷ cs)) ≡ length (c ∷ cs) = length-map (c ∷ cs) number_of in
+    omega (arith, ap (λ i. get_or (map number_of (c ∷ cs)) (i - 1) d) k, get_or-map number_of (c ∷ cs) (length (c ∷ cs) - 1) c d (omega arith), h c (omega arith))
 
 pub rise_drop : (cs : List Committed) (i : ℕ) → Rise (map number_of cs) → Rise (map number_of (drop i cs))
-rise_drop cs i up =
-    let all : Rise (drop i (map number_of cs)) = all_adjacent_from_non_decreasing (λ n. n) (drop i (map number_of cs)) (IsNonDecreasingBy-drop (λ n. n) i (map number_of cs) (IsNonDecreasingBy-from_all_adjacent (λ n. n) (map number_of cs) up)) in
-    subst Rise (drop-map number_of i cs) all
+rise_drop cs i up = subst Rise (drop-map number_of i cs) (IsNonDecreasingBy-drop (λ n. n) i (map number_of cs) up)
+
+pub front_below : (b : ℕ) (cs : List Committed) (r : ℕ) → AllWithin (λ (c : Committed). ltb c.number b ≡ true) cs 0 r → FrontBelow b r cs
+front_below b cs zero h = tt
+front_below b [] (suc r) h = tt
+front_below b (c ∷ cs) (suc r) h = (ltb-true c.number b (h 0 c (omega arith) (omega arith)), front_below b cs r (λ k d l m. h (suc k) d (omega arith) (omega arith)))
 
 module _ (t : Txn) (m : Mark) (l : m.number < t.begin) where
   not-passed : is_passed t m ≡ false
@@ -69,11 +58,10 @@ module _ (b : ℕ) where
   -- a test that none below b passes
   lowest-behind : (num : Mark → ℕ) (p : Mark → Bool) → ((m : Mark) → m.number < b → p m ≡ false) → (cs : List Committed) (r : ℕ) → FrontBelow b r cs →
       lowest num p (map mark_of cs) ≡ lowest num p (map mark_of (drop r cs))
-  unfolding lowest
   lowest-behind num p h cs zero a = refl
   lowest-behind num p h [] (suc r) a = refl
   lowest-behind num p h (c ∷ cs) (suc r) a =
-      ap (λ z. cond z (Some (num (mark_of c))) (lowest num p (map mark_of cs))) (h (mark_of c) a.0) ∙ lowest-behind num p h cs r a.1
+      lowest_step num p (mark_of c) (map mark_of cs) ∙ ap (λ z. cond z (Some (num (mark_of c))) (lowest num p (map mark_of cs))) (h (mark_of c) a.0) ∙ lowest-behind num p h cs r a.1
 
   any-behind : (p : Mark → Bool) → ((m : Mark) → m.number < b → p m ≡ false) → (cs : List Committed) (r : ℕ) → FrontBelow b r cs →
       any p (map mark_of cs) ≡ any p (map mark_of (drop r cs))
@@ -122,8 +110,8 @@ numbers-remarked t n (m ∷ ms) = ap (λ l. m.number ∷ l) (numbers-remarked t 
 pub numbers-taken : (t : Txn) (n : ℕ) (cs ds : List Committed) → map mark_of ds ≡ taken_in t n (map mark_of cs) → map number_of ds ≡ map number_of cs ++ (n ∷ [])
 numbers-taken t n cs ds e =
     let ms = map mark_of cs in
-    map-map mark_number mark_of ds ∙ ap (map mark_number) e ∙ map_push mark_number (map (remarked t n) ms) (new_mark t n ms)
-    ∙ ap (λ l. l ++ (n ∷ [])) (numbers-remarked t n ms ∙ sym (map-map mark_number mark_of cs))
+    sym (map-map mark_number mark_of ds) ∙ ap (map mark_number) e ∙ map_push mark_number (map (remarked t n) ms) (new_mark t n ms)
+    ∙ ap (λ l. l ++ (n ∷ [])) (numbers-remarked t n ms ∙ map-map mark_number mark_of cs)
 
 -- the part from place r on, lent
 module _ {X : Type 0} (ds cs : List X) (r : ℕ) (e : ds ≡ cs) where

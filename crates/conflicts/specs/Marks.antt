@@ -1,5 +1,5 @@
 -- What is kept of committed Serials, and what it says of one more.
-use Rattle.std.specs.Prelude.{◌≡◌, ℕ, Bool, true, cond, ◌&&◌, ◌||◌, List, [], ◌∷◌, ◌++◌, map, is_some, Some, None, Ok, Err, vec_items, Option, Result, nat_le, nat_lt}
+use Rattle.std.specs.Prelude.{◌≡◌, ℕ, Bool, true, cond, ◌&&◌, ◌||◌, List, [], ◌∷◌, ◌++◌, map, find, option_map, is_some, Some, None, Ok, Err, vec_items, Option, Result, nat_le, nat_lt}
 use Rattle.model.specs.declared.Entry.{Entry}
 use Rattle.model.specs.declared.Level.{Level}
 use Rattle.model.specs.declared.Refusal.{Refusal}
@@ -28,9 +28,8 @@ abbrev pub marks_of : Window → List Mark
 marks_of w = map mark_of (vec_items w.all)
 
 -- the number of the first that passes the test; where the numbers rise it is the lowest
-unfoldable pub lowest : {A : Type 0} → (A → ℕ) → (A → Bool) → List A → Option ℕ
-lowest num p [] = None
-lowest num p (x ∷ xs) = cond (p x) (Some (num x)) (lowest num p xs)
+abbrev pub lowest : {A : Type 0} → (A → ℕ) → (A → Bool) → List A → Option ℕ
+lowest num p xs = option_map num (find p xs)
 
 -- the number that there was, or else n, if there is one now
 abbrev pub since : Option ℕ → Bool → ℕ → Option ℕ

@@ -19,7 +19,7 @@ pub struct Committed {
 }
 
 // The committed Serials numbered from a floor on, in the order in which they came, and whether their numbers are known
-// to rise.
+// to rise: a caller may hand in any number.
 #[derive(Drop)]
 pub struct Window {
     all: Vec<Committed>,

@@ -1,8 +1,8 @@
 // A conversation by lines: requests from an input, answers to an output.
 #![tactic(auto)]
 
-use lines::{LineBuffer, say_bytes};
-use model::{Answer, Request};
+use lines::{LineBuffer, say};
+use model::{Reply, Request};
 use std::alloc::{AllocError, Global};
 use std::io::{Read, Write};
 use std::{fmt, io};
@@ -18,7 +18,7 @@ pub trait Service {
     // What ends the conversation early: trouble of its own, or with the input, the output or the memory.
     type Trouble: From<io::Error> + From<AllocError> + From<fmt::Error>;
 
-    fn answer(&mut self, request: Request) -> Result<Answer, Self::Trouble>;
+    fn answer(&mut self, request: Request) -> Result<Reply, Self::Trouble>;
 
     // Makes true what the answers so far claim, before they are printed.
     fn settle(&mut self) -> Result<(), Self::Trouble>;
@@ -46,8 +46,7 @@ pub fn converse<S: Service, I: Read, W: Write>(
         print(service, &mut text, output)?;
     }
     if let Some(request) = line.last() {
-        let answer = service.answer(request)?;
-        say_bytes(&mut text, &answer)?;
+        say(&mut text, &service.answer(request)?)?;
     }
     print(service, &mut text, output)
 }
@@ -60,8 +59,7 @@ fn reply<S: Service, W: Write>(
     output: &mut W,
 ) -> Result<(), S::Trouble> {
     for request in requests {
-        let answer = service.answer(*request)?;
-        say_bytes(text, &answer)?;
+        say(text, &service.answer(*request)?)?;
         if text.len() >= ENOUGH {
             print(service, text, output)?;
         }

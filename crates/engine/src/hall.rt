@@ -1,65 +1,53 @@
 // The store and its file as they answer a conversation.
-use crate::disk::Disk;
+use crate::disk::{Disk, Place};
 use crate::trouble::Trouble;
 use anyhow::anyhow;
 use conversation::Service;
-use journal::{Fault, Journal};
-use model::{Answer, Call, Request};
-use store::{Flaw, Opening, Reader, Store};
+use journal::Journal;
+use model::{Answer, Call, Reply, Request};
+use store::{Flaw, OpenError, Reader, Store};
 
 #[derive(Drop)]
 pub struct Hall<'h, 't, 's, 'a, 'j> {
-    pub rt: &'h HostRuntime,
-    // the file's name
-    pub name: &'h str,
-    pub store: &'h mut Store<'t, 's, 'a>,
+    place: Place<'h>,
+    store: &'h mut Store<'t, 's, 'a>,
     // records that are not yet in the file
-    pub journal: &'h mut Journal<'j>,
-    pub disk: Disk,
+    journal: &'h mut Journal<'j>,
+    disk: Disk,
 }
 
 // So many bytes of the file are read at once.
 const PIECE: usize = 65536;
 
-fn words(why: Fault) -> &'static str {
-    match why {
-        Fault::UnknownKind => "its first byte is not 1",
-        Fault::WrongNumber => "its number is not the next",
-        Fault::TooManyWrites => "it has more than 64 writes",
-        Fault::KeyOutOfBounds => "it has a key above 4095",
+impl<'h, 't, 's, 'a, 'j> Hall<'h, 't, 's, 'a, 'j> {
+    // Opens the file. Nothing of it is read yet.
+    pub fn open(
+        place: Place<'h>,
+        store: &'h mut Store<'t, 's, 'a>,
+        journal: &'h mut Journal<'j>,
+    ) -> Result<Hall<'h, 't, 's, 'a, 'j>, Trouble> {
+        let disk = place.open()?;
+        Ok(Hall {
+            place,
+            store,
+            journal,
+            disk,
+        })
     }
-}
-
-// The records go to the file.
-fn write_out(journal: &mut Journal, disk: &mut Disk) -> Result<(), Trouble> {
-    let records = journal.held();
-    if !records.is_empty() {
-        disk.append(records)?;
-    }
-    journal.clear();
-    Ok(())
-}
-
-// Has room for the record of any commit.
-fn make_room(journal: &mut Journal, disk: &mut Disk) -> Result<(), Trouble> {
-    if journal.has_room() {
-        return Ok(());
-    }
-    write_out(journal, disk)
 }
 
 impl Hall<'_, '_, '_, '_, '_> {
     // Takes up what is in the file, which was opened just now. Where a record is bad, says so, and the file stays as it is.
     pub fn load(&mut self) -> Result<(), Trouble> {
-        let mut reader = Reader::new(self.rt.alloc());
+        let mut reader = Reader::new(self.place.rt.alloc());
         let size = self.read_all(&mut reader)?;
         match self.store.open(&reader) {
-            Opening::Whole { bytes } => self.keep(bytes, size),
-            Opening::Bad(flaw) => {
+            Ok(bytes) => self.keep(bytes, size),
+            Err(OpenError::Bad(flaw)) => {
                 self.tell(flaw);
                 Ok(())
             }
-            Opening::NotLoading => Err(Trouble::Other(anyhow!(
+            Err(OpenError::NotLoading) => Err(Trouble::Other(anyhow!(
                 "there is no room for the versions"
             ))),
         }
@@ -67,7 +55,7 @@ impl Hall<'_, '_, '_, '_, '_> {
 
     // Reads the file to its end, or up to a bad record. The answer is how many bytes were read.
     fn read_all(&mut self, reader: &mut Reader) -> Result<u64, Trouble> {
-        let mut piece = vec![in self.rt.alloc(); 0u8; PIECE]?;
+        let mut piece = vec![in self.place.rt.alloc(); 0u8; PIECE]?;
         let mut size = 0u64;
         self.store.load();
         for _ in 0..u64::MAX {
@@ -89,43 +77,60 @@ impl Hall<'_, '_, '_, '_, '_> {
         self.disk.sync()?;
         // An empty file may be new. Nothing is written before its name is on the disk.
         if size == 0 {
-            Disk::sync_name(self.rt, self.name)?;
+            self.place.sync()?;
         }
         Ok(())
     }
 
     // Says which record of the file is bad. Where nobody can be told, all goes on.
     fn tell(&self, flaw: Flaw) {
-        let name = self.name;
-        let at = flaw.at;
-        let why = words(flaw.why);
-        let _ = eprintln!(self.rt;
+        let Place { rt, name } = self.place;
+        let Flaw { at, why } = flaw;
+        let _ = eprintln!(rt;
             "engine: {name} can't be read: the record at byte {at} is bad: {why}"
         );
     }
 
-    fn stop(&mut self) -> Result<Answer, Trouble> {
-        write_out(self.journal, &mut self.disk)?;
-        self.disk = Disk::open(self.rt, self.name)?;
-        self.load()?;
-        Ok(Answer::Done)
+    // The records go to the file.
+    fn write_out(&mut self) -> Result<(), Trouble> {
+        let records = self.journal.held();
+        if !records.is_empty() {
+            self.disk.append(records)?;
+        }
+        self.journal.clear();
+        Ok(())
     }
 
-    fn sync(&mut self, request: Request) -> Result<Answer, Trouble> {
-        let answer = self.store.answer_recording(request, self.journal);
-        if let Answer::Done = &answer {
-            write_out(self.journal, &mut self.disk)?;
+    // Has room for the record of any commit.
+    fn make_room(&mut self) -> Result<(), Trouble> {
+        if self.journal.has_room() {
+            return Ok(());
+        }
+        self.write_out()
+    }
+
+    fn stop(&mut self) -> Result<Reply, Trouble> {
+        self.write_out()?;
+        self.disk = self.place.open()?;
+        self.load()?;
+        Ok(Ok(Answer::Done))
+    }
+
+    fn sync(&mut self, request: Request) -> Result<Reply, Trouble> {
+        let reply = self.store.answer_recording(request, self.journal);
+        if reply.is_ok() {
+            self.write_out()?;
             self.disk.sync()?;
         }
-        Ok(answer)
+        Ok(reply)
     }
 }
 
 impl Service for Hall<'_, '_, '_, '_, '_> {
     type Trouble = Trouble;
 
-    fn answer(&mut self, request: Request) -> Result<Answer, Trouble> {
-        make_room(self.journal, &mut self.disk)?;
+    fn answer(&mut self, request: Request) -> Result<Reply, Trouble> {
+        self.make_room()?;
         match request {
             Request::Whole(Call::Stop) => self.stop(),
             Request::Whole(Call::Sync) => self.sync(request),
@@ -134,6 +139,6 @@ impl Service for Hall<'_, '_, '_, '_, '_> {
     }
 
     fn settle(&mut self) -> Result<(), Trouble> {
-        write_out(self.journal, &mut self.disk)
+        self.write_out()
     }
 }

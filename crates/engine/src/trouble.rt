@@ -1,15 +1,37 @@
 // What ends the program early.
 use anyhow::anyhow;
 use std::error::Error;
-use std::io;
+use std::fmt::Display;
+use std::{fmt, io};
+
+// What could not be done with the file.
+#[derive(Clone, Copy, PartialEq, Eq, Debug)]
+pub enum What {
+    Open,
+    Read,
+    Cut,
+    Write,
+    Sync,
+    SyncName,
+}
+
+impl Display for What {
+    fn fmt<W: fmt::Write>(&self, f: &mut fmt::Formatter<W>) -> fmt::Result {
+        f.write_str(match self {
+            What::Open => "can't be opened",
+            What::Read => "can't be read",
+            What::Cut => "can't be cut",
+            What::Write => "can't be written",
+            What::Sync => "can't be synced",
+            What::SyncName => "is in a folder that can't be synced",
+        })
+    }
+}
 
 #[derive(Drop)]
 pub enum Trouble {
-    // with the file: what can't be done, and why
-    File {
-        failed: &'static str,
-        why: io::Error,
-    },
+    // with the file
+    File { what: What, why: io::Error },
     // with anything else
     Other(anyhow::Error),
 }
@@ -21,11 +43,7 @@ impl<E: Error> From<E> for Trouble {
 }
 
 impl Trouble {
-    // The result of what was done to the file.
-    pub fn at_file<T>(res: io::Result<T>, failed: &'static str) -> Result<T, Trouble> {
-        match res {
-            Ok(done) => Ok(done),
-            Err(why) => Err(Trouble::File { failed, why }),
-        }
+    pub fn file(what: What, why: io::Error) -> Trouble {
+        Trouble::File { what, why }
     }
 }

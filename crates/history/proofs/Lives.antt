@@ -6,10 +6,8 @@ use Rattle.std.proofs.lemmas.List.{take-take, take-map, map_push, length_push}
 use Rattle.std.proofs.lemmas.Bool.{cond_both, cond-false, or_from, leb-false}
 use Rattle.model.specs.declared.Entry.{Entry}
 use Rattle.model.specs.declared.Level.{Level}
-use Rattle.model.specs.Lists.{any}
 use Rattle.model.specs.Transactions as rules
-use Rattle.model.specs.Transactions.{Txn, empty, after, is_latest, began, moment, answer_in, answered}
-use Rattle.versions.specs.Writes.{outside}
+use Rattle.model.specs.Transactions.{Txn, empty, after, is_latest, began, moment, answer_in, answered, outside}
 use Rattle.conflicts.proofs.Firsts.{any_push}
 use Rattle.history.specs.Engine.{Life, Engine, txn_of, txns, count, reading, read_by, written_by}
 use Rattle.history.specs.Sound.{Lived}
@@ -38,7 +36,6 @@ module _ (ds es : List Life) (n m : ℕ) (l : Life) (same : take n es ≡ take n
   }
 
 none-outside : outside [] ≡ false
-unfolding any
 none-outside = refl
 
 pub lived_new : (ts : List Txn) (n : ℕ) (l : Level) → Lived ts n (record { txn = began l n; given = [] })

@@ -9,10 +9,8 @@ use Rattle.model.specs.declared.Call.TheVariants.{Begin, Write, Commit, Sweep, S
 use Rattle.model.specs.declared.Entry.{Entry}
 use Rattle.model.specs.declared.Level.TheVariants.{Latest}
 use Rattle.model.specs.declared.Refusal.TheVariants.{OutOfBounds, TooMany, NoRoom, LastCommit}
-use Rattle.model.specs.Lists.{any}
-use Rattle.model.specs.Transactions.{Txn}
+use Rattle.model.specs.Transactions.{Txn, outside}
 use Rattle.model.specs.Versions.{keys_of}
-use Rattle.versions.specs.Writes.{outside}
 use Rattle.versions.proofs.Sums.{total-few}
 use Rattle.versions.proofs.Named.{keys-few}
 use Rattle.versions.proofs.Newest.{one-stays}
@@ -50,7 +48,6 @@ module _ (ds : List Life) (f : ℕ) where
 
   then-writes-all : (n : ℕ) (es xs : List Entry) → outside xs ≡ false → length es + length xs ≤ 64 →
       Led (standing ds f (Some (writer n es))) → Led (standing ds f (Some (writer n (es ++ xs))))
-  unfolding any
   then-writes-all n es [] k l p = rw (append-nil es) p
   then-writes-all n es (x ∷ xs) k l p =
       let q = or_parts (leb 4096 x.key) (outside xs) k in

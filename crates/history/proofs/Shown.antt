@@ -1,11 +1,9 @@
 -- The small example.
 use Rattle.std.proofs.Common.{◌≡◌, ℕ, zero, suc, List, [], ◌∷◌, map, get_or, sym, refl, subst, arith}
-use Rattle.model.specs.Lists.{any, kept}
 use Rattle.model.specs.Commits.{numbered}
 use Rattle.model.specs.Transactions.{puts, after, found_from, empty}
 use Rattle.model.specs.Versions.{versions_from, swept, keys_of}
 use Rattle.versions.specs.Chain.{sum_to, total}
-use Rattle.conflicts.specs.Marks.{lowest}
 use Rattle.order.specs.Order.{line, lined, AllSerial}
 use Rattle.history.specs.Engine.{Life, txn_of, run, led}
 use Rattle.history.specs.Sound.{nobody}
@@ -13,7 +11,7 @@ use Rattle.history.specs.Promise.{GivenOneByOne}
 use Rattle.history.specs.Examples.{Examples, passing, writer, reader}
 
 both : (led passing).done ≡ writer ∷ reader ∷ []
-unfolding run any numbered puts after found_from versions_from swept keys_of sum_to total
+unfolding run numbered puts after found_from versions_from swept keys_of sum_to total
 both = refl
 
 serials : AllSerial (map txn_of (writer ∷ reader ∷ []))
@@ -22,7 +20,7 @@ serials (suc zero) l = refl
 serials (suc (suc n)) l = absurd (omega arith)
 
 stands : line (map txn_of (writer ∷ reader ∷ [])) ≡ 1 ∷ 0 ∷ []
-unfolding any kept lowest lined
+unfolding lined
 stands = refl
 
 numbers : GivenOneByOne empty (writer ∷ reader ∷ []) → ⊥

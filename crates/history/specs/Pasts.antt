@@ -2,8 +2,7 @@
 use Rattle.std.specs.Prelude.{◌≡◌, ◌^◌, ◌<◌, ◌≤◌, false, List, map, length}
 use Rattle.std.specs.List.{AllByRecursion}
 use Rattle.model.specs.declared.Entry.{Entry}
-use Rattle.model.specs.Transactions.{Txn}
-use Rattle.versions.specs.Writes.{outside}
+use Rattle.model.specs.Transactions.{Txn, outside}
 use Rattle.history.specs.Engine.{Engine, idle, txns, count, Event, led}
 
 abbrev pub writes_of : Txn → List Entry

@@ -3,8 +3,7 @@ use Rattle.std.specs.Prelude.{◌≡◌, ℕ, ◌<◌, ◌≤◌, false, List, [
 use mathlib.Core.List.{Memᴰ}
 use Rattle.model.specs.declared.Level.TheVariants.{Latest}
 use Rattle.model.specs.Transactions as rules
-use Rattle.model.specs.Transactions.{Txn, is_latest, began, answered}
-use Rattle.versions.specs.Writes.{outside}
+use Rattle.model.specs.Transactions.{Txn, is_latest, began, answered, outside}
 use Rattle.conflicts.specs.Laws.{Allowed}
 use Rattle.history.specs.Engine.{Life, Engine, txns, count, slot_at, Event, led}
 

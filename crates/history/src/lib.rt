@@ -7,18 +7,14 @@ ghost use Rattle.history.specs.Examples.{Examples};
 ghost use Rattle.history.specs.Pasts.{EveryPast};
 
 // Events lead only to sound engines.
-pub fn always_sound() -> u8
+pub fn always_sound()
     ensures { AllSound }
-{
-    0
-}
+{}
 
 // What is promised holds whatever has happened. The example has two commits whose line is not by their numbers.
 // Every list of commits that a file can hold is one that some events led to.
-pub fn promises_stand() -> u8
+pub fn promises_stand()
     ensures promises { Promises }
     ensures examples { Examples }
     ensures pasts { EveryPast }
-{
-    0
-}
+{}

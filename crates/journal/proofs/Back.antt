@@ -6,8 +6,8 @@ use Rattle.std.proofs.lemmas.List.{length-append, get_or-take, length-take-le}
 use Rattle.std.proofs.lemmas.Bool.{le-ltb, or_from}
 use Rattle.std.proofs.lemmas.Bool.Decides.{nat_tests}
 use Rattle.model.specs.declared.Entry.{Entry}
-use Rattle.model.specs.Lists.{any}
-use Rattle.journal.specs.Records.{be2, be4, entry_bytes, head_bytes, record_of, written, strays, FineEntry, FineCommit}
+use Rattle.model.specs.Transactions.{outside}
+use Rattle.journal.specs.Records.{be2, be4, entry_bytes, head_bytes, record_of, written, FineEntry, FineCommit}
 use Rattle.journal.specs.Parsing.{of2, of4, entry_of, entries_of, counted, entries_in, whole, short, checked, parsed}
 use Rattle.journal.specs.Laws.{RecordBack}
 use Rattle.journal.proofs.Places.{length-record}
@@ -45,18 +45,17 @@ entries-back (e ∷ es) rest fine =
     ap (λ x. x ∷ entries_of (length es) (flat_map entry_bytes es ++ rest)) (entry-back e (flat_map entry_bytes es ++ rest) fine.0)
     ∙ ap (λ l. e ∷ l) (entries-back es rest fine.1)
 
-pub none_stray : (es : List Entry) → AllByRecursion FineEntry es → strays es ≡ false
-unfolding any
+pub none_stray : (es : List Entry) → AllByRecursion FineEntry es → outside es ≡ false
 none_stray [] fine = refl
-none_stray (e ∷ es) fine = or_from (ltb 4095 e.key) (strays es) (le-ltb 4095 e.key fine.0.0) (none_stray es fine.1)
+none_stray (e ∷ es) fine = or_from (ltb 4095 e.key) (outside es) (le-ltb 4095 e.key fine.0.0) (none_stray es fine.1)
 
 -- bytes that begin with a record
 parsed-whole : (n : ℕ) (es : List Entry) (bs : List ℕ) → get_or bs 0 0 ≡ 1 → counted bs ≡ length es → 6 + 6 * length es ≤ length bs → of4 (drop 1 bs) ≡ n → length es ≤ 64 →
-    entries_of (length es) (drop 6 bs) ≡ es → strays es ≡ false → parsed n bs ≡ whole es (6 + 6 * length es)
+    entries_of (length es) (drop 6 bs) ≡ es → outside es ≡ false → parsed n bs ≡ whole es (6 + 6 * length es)
 unfolding parsed checked
 parsed-whole n es bs kind count long number few reads keys =
     let r : entries_in bs ≡ es = ap (λ k. entries_of k (drop 6 bs)) count ∙ reads in
-    let f : strays (entries_in bs) ≡ false = ap strays r ∙ keys in
+    let f : outside (entries_in bs) ≡ false = ap outside r ∙ keys in
     grind (arith, nat_tests)
 
 -- bytes that end before the record that they begin with

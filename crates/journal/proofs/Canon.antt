@@ -5,9 +5,9 @@ use Rattle.std.proofs.ByRecursion.{All-drop, All-from_get_or}
 use Rattle.std.proofs.lemmas.List.{length-drop}
 use Rattle.std.proofs.lemmas.Bool.{cond_both, ltb-true, ltb-false, or_parts}
 use Rattle.model.specs.declared.Entry.{Entry}
-use Rattle.model.specs.Lists.{any}
 use Rattle.journal.specs.declared.types.Fault.TheVariants.{WrongNumber}
-use Rattle.journal.specs.Records.{be2, be4, entry_bytes, head_bytes, record_of, strays, FineEntry, FineCommit}
+use Rattle.model.specs.Transactions.{outside}
+use Rattle.journal.specs.Records.{be2, be4, entry_bytes, head_bytes, record_of, FineEntry, FineCommit}
 use Rattle.journal.specs.Parsing.{of2, of4, entry_of, entries_of, counted, Reading, whole, short, faulty, parsed, RecordIn}
 use Rattle.journal.specs.Files.{file_from, Opened, good, bad, after, onward, turned, replayed, opened, Read, ReadIn}
 use Rattle.journal.specs.Laws.{Canonical, ReadFine}
@@ -106,11 +106,10 @@ unfolding entries_of entry_of
 values_small zero bs s = tt
 values_small (suc n) bs s = (number_small (drop 2 bs) (small_drop 2 bs s), values_small n (drop 6 bs) (small_drop 6 bs s))
 
-all-fine : (es : List Entry) → strays es ≡ false → AllByRecursion (λ (e : Entry). e.value < 2 ^ 32) es → AllByRecursion FineEntry es
-unfolding any
+all-fine : (es : List Entry) → outside es ≡ false → AllByRecursion (λ (e : Entry). e.value < 2 ^ 32) es → AllByRecursion FineEntry es
 all-fine [] keys values = tt
 all-fine (e ∷ es) keys values =
-    let k = or_parts (ltb 4095 e.key) (strays es) keys in
+    let k = or_parts (ltb 4095 e.key) (outside es) keys in
     ((ltb-false 4095 e.key k.0, values.0), all-fine es k.1 values.1)
 
 record-fine : (n : ℕ) (bs : List ℕ) (es : List Entry) (k : ℕ) → Small bs → parsed n bs ≡ whole es k → FineCommit es

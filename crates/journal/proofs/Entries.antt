@@ -1,39 +1,45 @@
 -- Reading one write after another.
-use Rattle.std.proofs.Common.{◌≡◌, ℕ, zero, suc, ◌+◌, ◌*◌, ◌<◌, List, [], ◌∷◌, ◌++◌, length, get_or, take, drop, set, sym, refl, ap, ◌∙◌, arith}
-use Rattle.std.proofs.lemmas.List.{append_assoc, drop-drop, drop_more, take_more, set_at, length-take-le}
+use Rattle.std.proofs.Common.{◌≡◌, ℕ, zero, suc, ◌+◌, ◌<◌, ◌≤◌, List, [], ◌∷◌, ◌++◌, length, get_or, take, drop, map, set, sym, refl, ap, ◌∙◌, arith}
+use Rattle.std.proofs.lemmas.List.{append_assoc, drop_more, take_more, set_at, length-take-le, length-map, map_push}
 use Rattle.model.specs.declared.Entry.{Entry}
-use Rattle.journal.specs.Parsing.{of2, entry_of, entries_of}
+use Rattle.std.specs.Simd.{first_chunks}
+use Rattle.journal.specs.Parsing.{of2, of4, entry_of, entries_of}
 
 pub length-read : (n : ℕ) (bs : List ℕ) → length (entries_of n bs) ≡ n
 unfolding entries_of
 length-read zero bs = refl
 length-read (suc n) bs = ap suc (length-read n (drop 6 bs))
 
-pub there-read : (n i : ℕ) (bs : List ℕ) → i < n → i < length (entries_of n bs)
-there-read n i bs h = omega (arith, length-read n bs, h)
+-- the first six bytes are what counts
+front-read : (bs : List ℕ) → entry_of (take 6 bs) ≡ entry_of bs
+unfolding entry_of of2 of4
+front-read [] = refl
+front-read (a ∷ []) = refl
+front-read (a ∷ b ∷ []) = refl
+front-read (a ∷ b ∷ c ∷ []) = refl
+front-read (a ∷ b ∷ c ∷ d ∷ []) = refl
+front-read (a ∷ b ∷ c ∷ d ∷ e ∷ []) = refl
+front-read (a ∷ b ∷ c ∷ d ∷ e ∷ f ∷ bs) = refl
 
-pub entry_read : (n i : ℕ) (bs : List ℕ) (d : Entry) → i < n → get_or (entries_of n bs) i d ≡ entry_of (drop (6 * i) bs)
+parts-same : (n : ℕ) (bs : List ℕ) → map entry_of (first_chunks 6 n bs) ≡ entries_of n bs
 unfolding entries_of
-entry_read zero i bs d h = absurd (omega arith)
-entry_read (suc n) zero bs d h = refl
-entry_read (suc n) (suc i) bs d h =
-    let e : 6 + 6 * i ≡ 6 * suc i = omega arith in
-    entry_read n i (drop 6 bs) d (omega arith) ∙ ap entry_of (drop-drop (6 * i) 6 bs ∙ ap (λ m. drop m bs) e)
+parts-same zero bs = refl
+parts-same (suc n) bs = cc (front-read bs, parts-same n (drop 6 bs))
 
--- one element more of es stands in front of what is left of xs
-pub laid_more : {X : Type 0} (es xs ys : List X) (i : ℕ) (e : X) → i < length es → i < length xs → e ≡ get_or es i e → ys ≡ take i es ++ drop i xs →
-    set ys i e ≡ take (i + 1) es ++ drop (i + 1) xs
-laid_more es xs ys i e h l at eq =
-    ap (λ l. set l i e) (eq ∙ ap (λ l. take i es ++ l) (drop_more xs i e l))
-    ∙ set_at (take i es) (get_or xs i e) (drop (i + 1) xs) e i (length-take-le i es (omega arith))
-    ∙ ap (λ x. take i es ++ x ∷ drop (i + 1) xs) at
-    ∙ sym (append_assoc (take i es) (get_or es i e ∷ []) (drop (i + 1) xs))
-    ∙ ap (λ l. l ++ drop (i + 1) xs) (sym (take_more es i e h))
+first_of : {X : Type 0} (k n : ℕ) (xs : List X) → k ≤ n → take k (first_chunks 6 n xs) ≡ first_chunks 6 k xs
+first_of zero n xs h = refl
+first_of (suc k) zero xs h = absurd (omega arith)
+first_of (suc k) (suc n) xs h = ap (λ l. take 6 xs ∷ l) (first_of k n (drop 6 xs) (omega arith))
 
--- the write at place i of a record's bytes
-pub place_read : (n i : ℕ) (bs : List ℕ) (d : Entry) → i < n → entry_of (drop (6 + 6 * i) bs) ≡ get_or (entries_of n (drop 6 bs)) i d
-place_read n i bs d h = ap entry_of (sym (drop-drop (6 * i) 6 bs)) ∙ sym (entry_read n i (drop 6 bs) d h)
+-- the first k of the pieces of six bytes are the first k writes
+pub parts-read : (k n : ℕ) (bs : List ℕ) → k ≤ n → map entry_of (take k (first_chunks 6 n bs)) ≡ entries_of k bs
+parts-read k n bs h = ap (map entry_of) (first_of k n bs h) ∙ parts-same k bs
 
-pub key-read : (n i : ℕ) (bs : List ℕ) (d : Entry) → i < n → of2 (drop (6 + 6 * i) bs) ≡ (get_or (entries_of n (drop 6 bs)) i d).key
-unfolding entry_of
-key-read n i bs d h = ap (λ (e : Entry). e.key) (place_read n i bs d h)
+-- one piece more
+pub laid-more : (ps : List (List ℕ)) (xs ys : List Entry) (i : ℕ) (d : List ℕ) → i < length ps → i < length xs → ys ≡ map entry_of (take i ps) ++ drop i xs →
+    set ys i (entry_of (get_or ps i d)) ≡ map entry_of (take (i + 1) ps) ++ drop (i + 1) xs
+laid-more ps xs ys i d h l eq =
+    ap (λ l. set l i (entry_of (get_or ps i d))) (eq ∙ ap (λ l. map entry_of (take i ps) ++ l) (drop_more xs i (entry_of d) l))
+    ∙ set_at (map entry_of (take i ps)) (get_or xs i (entry_of d)) (drop (i + 1) xs) (entry_of (get_or ps i d)) i (length-map (take i ps) entry_of ∙ length-take-le i ps (omega arith))
+    ∙ sym (append_assoc (map entry_of (take i ps)) (entry_of (get_or ps i d) ∷ []) (drop (i + 1) xs))
+    ∙ ap (λ l. l ++ drop (i + 1) xs) (sym (map_push entry_of (take i ps) (get_or ps i d)) ∙ ap (map entry_of) (sym (take_more ps i d h)))

@@ -1,13 +1,12 @@
 -- The cases compute.
 use Rattle.std.proofs.Common.{refl}
-use Rattle.model.specs.Lists.{any}
 use Rattle.journal.specs.Records.{be2, be4, entry_bytes, head_bytes, record_of}
 use Rattle.journal.specs.Parsing.{of2, of4, entry_of, entries_of, checked, parsed}
 use Rattle.journal.specs.Files.{turned}
 use Rattle.journal.specs.Laws.{Cases}
 
 pub cases : Cases
-unfolding any be2 be4 entry_bytes head_bytes record_of of2 of4 entry_of entries_of checked parsed turned
+unfolding be2 be4 entry_bytes head_bytes record_of of2 of4 entry_of entries_of checked parsed turned
 cases = record {
   empty = refl;
   one = refl;

@@ -1,5 +1,5 @@
 -- A file goes on with the records of what comes after.
-use Rattle.std.proofs.Common.{◌≡◌, ℕ, suc, ◌+◌, Bool, true, false, cond, List, [], ◌∷◌, ◌++◌, length, sym, ap, ◌∙◌, add-zero, arith}
+use Rattle.std.proofs.Common.{◌≡◌, ℕ, suc, ◌+◌, List, [], ◌∷◌, ◌++◌, length, sym, ap, ◌∙◌, add-zero, arith}
 use Rattle.std.proofs.lemmas.List.{append-nil, append_assoc}
 use Rattle.model.specs.declared.Entry.{Entry}
 use Rattle.journal.specs.Records.{record_of}
@@ -21,7 +21,6 @@ unfolding file_from
 file_push n ws es = files_join n ws (es ∷ []) ∙ ap (λ l. file_from n ws ++ l) (append-nil (record_of (n + length ws) es))
 
 -- what is held of one file is the next, where the record went behind it
-pub gathered : (r : Bool) (m : ℕ) (es : List Entry) (xs ys : List ℕ) → ys ≡ cond r (xs ++ record_of m es) xs →
-    (n : ℕ) (ws : List (List Entry)) → xs ≡ file_from n ws → m ≡ n + length ws → ys ≡ file_from n (cond r (ws ++ es ∷ []) ws)
-gathered true m es xs ys e n ws h k = e ∙ ap (λ l. l ++ record_of m es) h ∙ ap (λ x. file_from n ws ++ record_of x es) k ∙ sym (file_push n ws es)
-gathered false m es xs ys e n ws h k = e ∙ h
+pub went_on : (m : ℕ) (es : List Entry) (xs ys : List ℕ) → ys ≡ xs ++ record_of m es →
+    (n : ℕ) (ws : List (List Entry)) → xs ≡ file_from n ws → m ≡ n + length ws → ys ≡ file_from n (ws ++ es ∷ [])
+went_on m es xs ys e n ws h k = e ∙ ap (λ l. l ++ record_of m es) h ∙ ap (λ x. file_from n ws ++ record_of x es) k ∙ sym (file_push n ws es)

@@ -1,8 +1,8 @@
-pub mod Anys
 pub mod Places
 pub mod Encoding
 pub mod Entries
 pub mod Reading
+pub mod Fronts
 pub mod Replaying
 pub mod Back
 pub mod Cuts

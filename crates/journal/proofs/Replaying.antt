@@ -9,6 +9,10 @@ use Rattle.journal.specs.Parsing.{Reading, whole, short, faulty, parsed}
 use Rattle.journal.specs.Files.{Opened, good, bad, after, onward, turned, replayed, behind}
 use Rattle.journal.proofs.Reading.{whole-within, nothing_short}
 
+-- a number that is not the last has a next one
+pub below : (n : ℕ) → n < 2 ^ 32 → (n ≡ 4294967295 → ⊥) → n + 1 < 2 ^ 32
+below n h ne = grind (arith, h, ne)
+
 onward-same : (n : ℕ) (p : Reading) (f g : ℕ → Opened) → ((es : List Entry) (k : ℕ) → p ≡ whole es k → f k ≡ g k) → onward n p f ≡ onward n p g
 onward-same n (whole es k) f g h = ap (λ r. cond (ltb (suc n) (2 ^ 32)) (after es k r) (bad 0 WrongNumber)) (h es k refl)
 onward-same n short f g h = refl

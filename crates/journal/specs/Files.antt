@@ -1,11 +1,11 @@
 -- A file of records, read from its start.
-use Rattle.std.specs.Prelude.{◌≡◌, ℕ, zero, suc, ◌+◌, ◌-◌, ◌*◌, ◌^◌, ◌<◌, ◌≤◌, cond, List, [], ◌∷◌, ◌++◌, length, take, drop, nat_le, nat_lt}
+use Rattle.std.specs.Prelude.{◌≡◌, ℕ, zero, suc, ◌+◌, ◌-◌, ◌*◌, ◌^◌, ◌<◌, ◌≤◌, cond, List, [], ◌∷◌, ◌++◌, length, take, drop, Ok, Err, Result, nat_le, nat_lt}
 use Rattle.std.specs.List.{AllByRecursion}
 use Rattle.model.specs.declared.Entry.{Entry}
 use Rattle.journal.specs.declared.types.Fault.{Fault}
 use Rattle.journal.specs.declared.types.Fault.TheVariants.{WrongNumber}
+use Rattle.journal.specs.declared.types.Flaw.{Flaw}
 use Rattle.journal.specs.declared.types.Survey.{Survey}
-use Rattle.journal.specs.declared.types.Survey.TheVariants.{Good, Bad}
 use Rattle.journal.specs.Records.{record_of, FineCommit}
 use Rattle.journal.specs.Parsing.{Reading, whole, short, faulty, parsed}
 
@@ -60,10 +60,15 @@ abbrev pub on_good : Opened → (List (List Entry) → ℕ → Opened) → Opene
 on_good (good ws used) go = go ws used
 on_good (bad at why) go = bad at why
 
+-- what is answered of the record that begins at this byte
+abbrev pub flawed : {A : Type 0} → ℕ → Result A Fault → Result A Flaw
+flawed at (Ok x) = Ok x
+flawed at (Err why) = Err (record { at = at; why = why })
+
 -- what a survey from number n on answers
-abbrev pub surveyed : ℕ → Opened → Survey
-surveyed n (good ws used) = Good used (n + length ws)
-surveyed n (bad at why) = Bad at why
+abbrev pub surveyed : ℕ → Opened → Result Survey Flaw
+surveyed n (good ws used) = Ok (record { bytes = used; next = n + length ws })
+surveyed n (bad at why) = Err (record { at = at; why = why })
 
 -- the commits that were read from number n on: their records are the first bytes, and they can be
 pub record Read (n : ℕ) (bs : List ℕ) (ws : List (List Entry)) (used : ℕ) : Type 0 where

@@ -3,3 +3,4 @@ pub mod Parsing
 pub mod Files
 pub mod Held
 pub mod Laws
+pub mod Words

@@ -1,11 +1,12 @@
 -- What a reader makes of the bytes at the front of a file.
-use Rattle.std.specs.Prelude.{◌≡◌, ℕ, zero, suc, ◌+◌, ◌*◌, cond, List, [], ◌∷◌, ◌++◌, length, take, drop, Some, None, Option, ◌==◌, nat_le, nat_lt, slice_index}
+use Rattle.std.specs.Prelude.{◌≡◌, ℕ, zero, suc, ◌+◌, ◌*◌, cond, List, [], ◌∷◌, ◌++◌, length, take, drop, Some, None, Ok, Err, Option, Result, ◌==◌, nat_le, nat_lt, slice_index}
 use Rattle.model.specs.declared.Entry.{Entry}
+use Rattle.model.specs.Transactions.{outside}
 use Rattle.journal.specs.declared.types.Fault.{Fault}
 use Rattle.journal.specs.declared.types.Fault.TheVariants.{UnknownKind, WrongNumber, TooManyWrites, KeyOutOfBounds}
-use Rattle.journal.specs.declared.types.Parsed.{Parsed}
-use Rattle.journal.specs.declared.types.Parsed.TheVariants.{Whole, Short, Bad}
-use Rattle.journal.specs.Records.{record_of, strays, FineCommit}
+use Rattle.journal.specs.declared.types.Record.{Record}
+use Rattle.journal.specs.declared.types.Unfit.{Unfit}
+use Rattle.journal.specs.Records.{record_of, FineCommit}
 
 -- the number that the first two or four bytes write
 unfoldable pub of2 : List ℕ → ℕ
@@ -39,7 +40,7 @@ unfoldable pub checked : ℕ → List ℕ → Reading
 checked n bs =
     cond (of4 (drop 1 bs) == n)
     (cond (nat_le (counted bs) 64)
-    (cond (strays (entries_in bs)) (faulty KeyOutOfBounds) (whole (entries_in bs) (6 + 6 * counted bs)))
+    (cond (outside (entries_in bs)) (faulty KeyOutOfBounds) (whole (entries_in bs) (6 + 6 * counted bs)))
     (faulty TooManyWrites))
     (faulty WrongNumber)
 
@@ -52,10 +53,10 @@ parsed n bs =
     (faulty UnknownKind))
 
 -- what the reader answers
-abbrev pub outlined : Reading → Parsed
-outlined (whole es k) = Whole k (length es)
-outlined short = Short
-outlined (faulty why) = Bad why
+abbrev pub outlined : Reading → Result (Option Record) Fault
+outlined (whole es k) = Ok (Some (record { bytes = k; count = length es }))
+outlined short = Ok None
+outlined (faulty why) = Err why
 
 -- what the reader leaves where the writes go: they stand in front, and all else is as it was
 abbrev pub laid : Reading → List Entry → List Entry
@@ -70,6 +71,6 @@ RecordIn n bs short = Unit {0}
 RecordIn n bs (faulty why) = Unit {0}
 
 -- what an encoder has written is read as what it was given, and that can be
-abbrev pub ReadBack : ℕ → List Entry → List ℕ → Option ℕ → Type 0
-ReadBack n es after (Some k) = (parsed n after ≡ whole es k) × FineCommit es
-ReadBack n es after None = Unit {0}
+abbrev pub ReadBack : ℕ → List Entry → List ℕ → Result ℕ Unfit → Type 0
+ReadBack n es after (Ok k) = (parsed n after ≡ whole es k) × FineCommit es
+ReadBack n es after (Err why) = Unit {0}

@@ -1,9 +1,11 @@
 -- The record of a commit: the byte 1, the commit's number (4 bytes), how many writes (1), and of each write, in their
 -- order, the key (2) and the value (4). High byte first.
-use Rattle.std.specs.Prelude.{◌≡◌, ℕ, ◌+◌, ◌*◌, ◌/◌, ◌%◌, ◌^◌, ◌<◌, ◌≤◌, Bool, cond, not, ◌&&◌, List, [], ◌∷◌, ◌++◌, length, take, drop, Some, None, Option, nat_le, nat_lt}
+use Rattle.std.specs.Prelude.{◌≡◌, ℕ, ◌+◌, ◌*◌, ◌/◌, ◌%◌, ◌^◌, ◌<◌, ◌≤◌, Bool, true, false, cond, not, ◌&&◌, List, [], ◌∷◌, ◌++◌, length, take, drop, Some, None, Ok, Err, Option, Result, nat_le}
 use Rattle.std.specs.List.{flat_map, AllByRecursion}
 use Rattle.model.specs.declared.Entry.{Entry}
-use Rattle.model.specs.Lists.{any}
+use Rattle.model.specs.Transactions.{outside}
+use Rattle.journal.specs.declared.types.Unfit.{Unfit}
+use Rattle.journal.specs.declared.types.Unfit.TheVariants.{TooManyWrites, NoRoom, KeyOutOfBounds}
 
 unfoldable pub be2 : ℕ → List ℕ
 be2 n = (n / 256 % 256) ∷ (n % 256) ∷ []
@@ -25,10 +27,6 @@ record_of n es = head_bytes n (length es) ++ flat_map entry_bytes es
 unfoldable pub written : ℕ → List ℕ → List ℕ → List ℕ
 written at bs xs = take at xs ++ (bs ++ drop (at + length bs) xs)
 
--- a key is above 4,095
-abbrev pub strays : List Entry → Bool
-strays es = any (λ (e : Entry). nat_lt 4095 e.key) es
-
 abbrev pub FineEntry : Entry → Type 0
 FineEntry e = (e.key ≤ 4095) × (e.value < 2 ^ 32)
 
@@ -38,10 +36,19 @@ FineCommit es = (length es ≤ 64) × AllByRecursion FineEntry es
 
 -- a record with these writes can be, and so many bytes have room for it
 unfoldable pub fits : List Entry → ℕ → Bool
-fits es room = nat_le (length es) 64 && (nat_le (6 + 6 * length es) room && not (strays es))
+fits es room = nat_le (length es) 64 && (nat_le (6 + 6 * length es) room && not (outside es))
 
--- what an encoder leaves and answers: the record in front and its length; or None, and all as it was, where it does not fit
-abbrev pub Encoded : ℕ → List Entry → List ℕ → List ℕ → Option ℕ → Type 0
-Encoded n es before after r =
-    (after ≡ cond (fits es (length before)) (record_of n es ++ drop (length (record_of n es)) before) before) ×
-    (r ≡ cond (fits es (length before)) (Some (length (record_of n es))) None)
+-- why not, if so
+unfoldable pub misfit : List Entry → ℕ → Option Unfit
+misfit es room =
+    cond (nat_le (length es) 64)
+    (cond (nat_le (6 + 6 * length es) room)
+    (cond (outside es) (Some KeyOutOfBounds) None)
+    (Some NoRoom))
+    (Some TooManyWrites)
+
+-- what an encoder leaves and answers: the record in front and its length, where it fits; or why it does not, and all as it was
+abbrev pub Encoded : ℕ → List Entry → List ℕ → List ℕ → Result ℕ Unfit → Type 0
+Encoded n es before after (Ok k) =
+    (fits es (length before) ≡ true) × (k ≡ length (record_of n es)) × (after ≡ record_of n es ++ drop (length (record_of n es)) before)
+Encoded n es before after (Err why) = (fits es (length before) ≡ false) × (misfit es (length before) ≡ Some why) × (after ≡ before)

@@ -2,7 +2,7 @@
 ghost use Rattle.journal.specs.Laws.{RecordBack, FileBack, CutAnywhere, InPieces, Canonical, ReadFine, FilesJoin, Cases};
 
 // The laws stand: a caller has them for any commits and bytes.
-pub fn laws_stand() -> u8
+pub fn laws_stand()
     ensures records { RecordBack }
     ensures files { FileBack }
     ensures cuts { CutAnywhere }
@@ -11,6 +11,4 @@ pub fn laws_stand() -> u8
     ensures fine { ReadFine }
     ensures join { FilesJoin }
     ensures cases { Cases }
-{
-    0
-}
+{}

@@ -7,7 +7,5 @@ pub const HEAD: usize = 6;
 pub const WRITE: usize = 6;
 
 pub const MOST_WRITES: usize = 64;
-
-pub const MOST_KEY: u32 = 4095;
 // bytes of a record with as many writes as there may be
 pub const LARGEST_RECORD: usize = 390;

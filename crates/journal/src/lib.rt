@@ -14,5 +14,5 @@ pub use gather::Journal;
 pub use laws::laws_stand;
 pub use layout::LARGEST_RECORD;
 pub use reader::{decode, front};
-pub use types::{Fault, Parsed, Survey};
+pub use types::{Fault, Flaw, Record, Survey, Unfit};
 pub use writer::encode;

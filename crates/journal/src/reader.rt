@@ -1,102 +1,95 @@
 // Reads records.
-ghost use Rattle.std.specs.Prelude.{◌≡◌, ◌+◌, ◌*◌, ◌<◌, ◌≤◌, ◌++◌, length, drop};
-ghost use Rattle.journal.specs.Records.{strays};
-ghost use Rattle.journal.specs.Parsing.{of2, of4, entry_of, entries_of, parsed, outlined, laid, RecordIn};
+ghost use Rattle.std.specs.Prelude.{◌≡◌, ◌+◌, ◌*◌, ◌<◌, ◌≤◌, ◌++◌, length, drop, map};
+ghost use Rattle.model.specs.Transactions.{outside};
+ghost use Rattle.journal.specs.Parsing.{entry_of, entries_of, parsed, outlined, laid, RecordIn};
 
 use crate::layout::*;
-use crate::types::{Fault, Parsed};
-use model::Entry;
+use crate::types::{Fault, Record};
+use model::{Entry, KEYS};
 
-fn number_at(bytes: &[u8], at: usize) -> u32
-    requires { at + 4 ≤ length bytes.now }
-    ensures { result ≡ of4 (drop at bytes.now) }
+// The key and the value that six bytes write.
+fn entry_of(bytes: &[u8; WRITE]) -> Entry
+    ensures { result ≡ entry_of bytes.now }
 {
-    u32::from_be_bytes([bytes[at], bytes[at + 1], bytes[at + 2], bytes[at + 3]])
-}
-
-fn key_at(bytes: &[u8], at: usize) -> u32
-    requires { at + 2 ≤ length bytes.now }
-    ensures { result ≡ of2 (drop at bytes.now) }
-{
-    u16::from_be_bytes([bytes[at], bytes[at + 1]]) as u32
-}
-
-fn entry_at(bytes: &[u8], at: usize) -> Entry
-    requires { at + 6 ≤ length bytes.now }
-    ensures { result ≡ entry_of (drop at bytes.now) }
-{
-    let key = key_at(bytes, at);
+    let [high, low, a, b, c, d] = *bytes;
     Entry {
-        key,
-        value: number_at(bytes, at + 2),
+        key: u16::from_be_bytes([high, low]) as u32,
+        value: u32::from_be_bytes([a, b, c, d]),
     }
+}
+
+// The bytes of each write, behind the head.
+fn parts(bytes: &[u8], count: usize) -> &[[u8; WRITE]]
+    requires { 6 + 6 * count ≤ length bytes.now }
+    ensures { map entry_of result.now ≡ entries_of count (drop 6 bytes.now) }
+{
+    let (parts, _) = bytes[HEAD..].as_chunks();
+    &parts[..count]
 }
 
 // Whether a key is above 4,095.
-fn stray(bytes: &[u8], count: usize) -> bool
-    requires { 6 + 6 * count ≤ length bytes.now }
-    ensures { result ≡ strays (entries_of count (drop 6 bytes.now)) }
+fn stray(parts: &[[u8; WRITE]]) -> bool
+    ensures { result ≡ outside (map entry_of parts.now) }
 {
-    for i in 0..count {
-        if key_at(bytes, HEAD + WRITE * i) > MOST_KEY {
-            return true;
-        }
-    }
-    false
+    parts
+        .iter()
+        .map(|part| entry_of(part))
+        .any(|w| w.key >= KEYS)
 }
 
-// The record's writes go to the front of writes.
-fn lay(bytes: &[u8], count: usize, writes: &mut [Entry])
-    requires bytes { 6 + 6 * count ≤ length bytes.now }
-    requires room { count ≤ length writes.old }
-    ensures { writes.new ≡ entries_of count (drop 6 bytes.now) ++ drop count writes.old }
+// The record's writes go to the front of writes, each by its index: of what a `zip` of `iter_mut` wrote no clause says
+// anything.
+fn lay(parts: &[[u8; WRITE]], writes: &mut [Entry])
+    requires { length parts.now ≤ length writes.old }
+    ensures { writes.new ≡ map entry_of parts.now ++ drop (length parts.now) writes.old }
 {
-    for i in 0..count {
-        writes[i] = entry_at(bytes, HEAD + WRITE * i);
+    for (i, part) in parts.iter().enumerate() {
+        writes[i] = entry_of(part);
     }
 }
 
-// What the record at the front is, when it must have this number.
-pub fn front(bytes: &[u8], number: u32) -> Parsed
+// The record at the front, when it must have this number; None where the bytes end before it does.
+pub fn front(bytes: &[u8], number: u32) -> Result<Option<Record>, Fault>
     ensures { result ≡ outlined (parsed number bytes.now) }
 {
-    if bytes.len() == 0 {
-        return Parsed::Short;
+    let Some(&kind) = bytes.first() else {
+        return Ok(None);
+    };
+    if kind != KIND {
+        return Err(Fault::UnknownKind);
     }
-    if bytes[0] != KIND {
-        return Parsed::Bad(Fault::UnknownKind);
+    let Some((&[_, a, b, c, d, count], rest)) = bytes.split_first_chunk::<HEAD>() else {
+        return Ok(None);
+    };
+    let count = count as usize;
+    if rest.len() < WRITE * count {
+        return Ok(None);
     }
-    if bytes.len() < HEAD {
-        return Parsed::Short;
-    }
-    let count = bytes[5] as usize;
-    let size = HEAD + WRITE * count;
-    if bytes.len() < size {
-        return Parsed::Short;
-    }
-    let found = number_at(bytes, 1);
-    if found != number {
-        return Parsed::Bad(Fault::WrongNumber);
+    if u32::from_be_bytes([a, b, c, d]) != number {
+        return Err(Fault::WrongNumber);
     }
     if count > MOST_WRITES {
-        return Parsed::Bad(Fault::TooManyWrites);
+        return Err(Fault::TooManyWrites);
     }
-    if stray(bytes, count) {
-        return Parsed::Bad(Fault::KeyOutOfBounds);
+    if stray(parts(bytes, count)) {
+        return Err(Fault::KeyOutOfBounds);
     }
-    Parsed::Whole { bytes: size, count }
+    Ok(Some(Record {
+        bytes: HEAD + WRITE * count,
+        count,
+    }))
 }
 
 // The same, and its writes go to the front of writes where it is whole; all else there is as it was.
 // A whole record has the bytes that `encode` writes.
-pub fn decode(bytes: &[u8], number: u32, writes: &mut [Entry; 64]) -> Parsed
+pub fn decode(bytes: &[u8], number: u32, writes: &mut [Entry; 64]) -> Result<Option<Record>, Fault>
     ensures answer { result ≡ outlined (parsed number bytes.now) }
     ensures writes { writes.new ≡ laid (parsed number bytes.now) writes.old }
     ensures whole { RecordIn number bytes.now (parsed number bytes.now) }
 {
-    let answer = front(bytes, number);
-    if let Parsed::Whole { count, .. } = answer {
-        lay(bytes, count, writes);
-    }
-    answer
+    let Some(found) = front(bytes, number)? else {
+        return Ok(None);
+    };
+    lay(parts(bytes, found.count), writes);
+    Ok(Some(found))
 }

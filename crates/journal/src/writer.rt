@@ -1,11 +1,13 @@
 // Writes records.
 ghost use Rattle.std.specs.Prelude.{◌≡◌, ◌+◌, ◌*◌, ◌<◌, ◌≤◌, false, length};
 ghost use Rattle.std.specs.List.{flat_map, AllByRecursion};
-ghost use Rattle.journal.specs.Records.{written, entry_bytes, head_bytes, strays, FineEntry, Encoded};
+ghost use Rattle.model.specs.Transactions.{outside};
+ghost use Rattle.journal.specs.Records.{written, entry_bytes, head_bytes, FineEntry, Encoded};
 ghost use Rattle.journal.specs.Parsing.{ReadBack};
 
 use crate::layout::*;
-use model::Entry;
+use crate::types::Unfit;
+use model::{Entry, outside};
 
 // Writes bytes at a place.
 fn put(out: &mut [u8], at: usize, bytes: &[u8])
@@ -26,16 +28,15 @@ fn put_entry(out: &mut [u8], at: usize, e: Entry)
     put(out, at + 2, &e.value.to_be_bytes());
 }
 
+// The entries one behind the other, each by its index: of what was written through `chunks_exact_mut` no clause says anything.
 fn put_entries(out: &mut [u8], at: usize, entries: &[Entry])
     requires room { at + 6 * length entries.now ≤ length out.old }
-    requires keys { strays entries.now ≡ false }
+    requires keys { outside entries.now ≡ false }
     ensures bytes { out.new ≡ written at (flat_map entry_bytes entries.now) out.old }
     ensures fine { AllByRecursion FineEntry entries.now }
 {
-    let mut place = at;
-    for e in entries {
-        put_entry(out, place, *e);
-        place += WRITE;
+    for (i, e) in entries.iter().enumerate() {
+        put_entry(out, at + WRITE * i, *e);
     }
 }
 
@@ -49,36 +50,24 @@ fn put_head(out: &mut [u8], number: u32, count: u8)
     out[5] = count;
 }
 
-// Whether a key is above 4,095.
-fn stray(entries: &[Entry]) -> bool
-    ensures { result ≡ strays entries.now }
-{
-    for e in entries {
-        if e.key > MOST_KEY {
-            return true;
-        }
-    }
-    false
-}
-
-// The commit's record goes to the start of out, and the answer is how many bytes it has. None, and nothing is changed,
-// where it does not fit, has more than 64 writes or a key above 4,095. What is written is read back.
-pub fn encode(out: &mut [u8], number: u32, writes: &[Entry]) -> Option<usize>
+// The commit's record goes to the start of out, and the answer is how many bytes it has; or why it gets none, and nothing
+// is changed. What is written is read back.
+pub fn encode(out: &mut [u8], number: u32, writes: &[Entry]) -> Result<usize, Unfit>
     ensures bytes { Encoded number writes.now out.old out.new result }
     ensures back { ReadBack number writes.now out.new result }
 {
     let count = writes.len();
     if count > MOST_WRITES {
-        return None;
+        return Err(Unfit::TooManyWrites);
     }
     let size = HEAD + WRITE * count;
     if out.len() < size {
-        return None;
+        return Err(Unfit::NoRoom);
     }
-    if stray(writes) {
-        return None;
+    if outside(writes) {
+        return Err(Unfit::KeyOutOfBounds);
     }
     put_head(out, number, count as u8);
     put_entries(out, HEAD, writes);
-    Some(size)
+    Ok(size)
 }

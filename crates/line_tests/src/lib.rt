@@ -7,8 +7,8 @@ mod cases;
 #[cfg(test)]
 mod tests {
     use crate::cases::*;
-    use lines::{LineBuffer, parse};
-    use model::{Call, Request};
+    use lines::{LineBuffer, Text, parse, say, say_number};
+    use model::{Answer, Call, Counts, Entry, Refusal, Reply, Request};
     use std::alloc::{AllocError, Global};
     use std::process::Abort;
     use std::test::Fail;
@@ -100,6 +100,50 @@ mod tests {
         assert!(rt;
             requests.as_slice() == [Request::Unknown, Request::Whole(Call::Show)].as_slice()
         );
+        Ok(())
+    }
+
+    // One reply of each kind.
+    fn say_each<T: Text>(heap: Global, out: &mut T) -> Result<(), AllocError> {
+        let mut entries = Vec::new(heap);
+        entries.push(Entry { key: 7, value: 1 })?;
+        entries.push(Entry {
+            key: 4095,
+            value: 4294967295,
+        })?;
+        let counts = Counts {
+            commits: 4294967295,
+            versions: 32768,
+            busy: 16,
+        };
+        let replies: [Reply; 5] = [
+            Ok(Answer::Done),
+            Ok(Answer::Found(entries)),
+            Ok(Answer::Committed(10)),
+            Ok(Answer::Shown(counts)),
+            Err(Refusal::NoMemory),
+        ];
+        for reply in &replies {
+            say(out, reply)?;
+        }
+        say_number(out, 0)
+    }
+
+    const SAID: &str = "7=1 4095=4294967295\n10\n4294967295 32768 16\nno 99\n0";
+
+    #[test]
+    fn said_as_bytes(rt: HostRuntime) -> Result<(), Fail> {
+        let mut out: Vec<u8> = Vec::new(rt.alloc());
+        say_each(rt.alloc(), &mut out)?;
+        assert!(rt; out.as_slice() == SAID.as_bytes());
+        Ok(())
+    }
+
+    #[test]
+    fn said_as_string(rt: HostRuntime) -> Result<(), Fail> {
+        let mut out = String::new(rt.alloc());
+        say_each(rt.alloc(), &mut out)?;
+        assert!(rt; out.as_str() == SAID);
         Ok(())
     }
 }

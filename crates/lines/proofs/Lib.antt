@@ -1,10 +1,7 @@
-pub mod Scan
 pub mod Gather
-pub mod Joins
-pub mod Pairs
 pub mod Splits
 pub mod Digits
-pub mod Spelling
 pub mod Trips
 pub mod Lined
+pub mod Pairs
 pub mod Wholes

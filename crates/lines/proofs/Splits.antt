@@ -1,13 +1,40 @@
 -- A line falls apart into words.
-use Rattle.std.proofs.Common.{◌≡◌, ℕ, zero, suc, ◌+◌, ◌-◌, Bool, true, false, cond, not, eqb, List, [], ◌∷◌, ◌++◌, length, get_or, take, drop, sym, refl, ap, ◌∙◌, append_assoc, append-nil, arith, eq-eqb}
+use Rattle.std.proofs.Common.{◌≡◌, ℕ, zero, suc, ◌+◌, ◌-◌, Bool, true, false, cond, not, eqb, List, [], ◌∷◌, ◌++◌, length, get_or, Some, None, take, drop, sym, refl, ap, ◌∙◌, append_assoc, append-nil, arith, eq-eqb, ltb, ltb-false}
 use borrow.Author.Tests.{apart_eqb}
+use Rattle.std.proofs.lemmas.List.Sums.{prefix_len-le-length}
 use Rattle.std.proofs.lemmas.List.{length_push, get_or_push, take_at}
 use Rattle.std.proofs.lemmas.Bool.{or_parts, cond-true, cond-false}
 use Rattle.model.specs.Lists.{any}
 use Rattle.model.specs.declared.Request.{Request}
-use Rattle.lines.specs.Words.{blank, leading, trimmed, word, behind, field, unended}
+use Rattle.std.specs.List.{position, position_or_len}
+use Rattle.std.specs.Option.{unwrap_or}
+use Rattle.lines.specs.Words.{blank, trimmed, word, behind, field, unended}
 use Rattle.lines.specs.Requests.{asked, parsed}
 use Rattle.lines.specs.Laws.{ended, words_from, words_of, line_words, Split, Return, SameWords}
+
+-- where the test passes first, or the length where it passes nowhere
+or_len : (p : ℕ → Bool) (s : List ℕ) → unwrap_or (position p s) (length s) ≡ position_or_len p s
+or_len p s = by (ltb (position_or_len p s) (length s)) refl
+  where
+    n : ℕ
+    n = position_or_len p s
+
+    by : (q : Bool) → ltb n (length s) ≡ q → unwrap_or (cond q (Some n) None) (length s) ≡ n
+    by true e = refl
+    by false e = let l = prefix_len-le-length (λ x. not (p x)) s in let m = ltb-false n (length s) e in omega arith
+
+-- as the parser takes the first word: start is where it starts, and end how long it is
+module _ (s rest : List ℕ) (start end : ℕ) (e : start ≡ unwrap_or (position (λ b. not (blank b)) s) (length s)) (r : rest ≡ drop start s) (f : end ≡ unwrap_or (position blank rest) (length rest)) where
+  trimmed_is : rest ≡ trimmed s
+  trimmed_is = r ∙ ap (λ (n : ℕ). drop n s) (e ∙ or_len (λ b. not (blank b)) s)
+
+  pub first_word : take end rest ≡ word s
+  unfolding word
+  first_word = ap (λ (n : ℕ). take n rest) (f ∙ or_len blank rest) ∙ ap (λ (t : List ℕ). take (position_or_len blank t) t) trimmed_is
+
+  pub behind-first : drop end rest ≡ behind s
+  unfolding behind
+  behind-first = ap (λ (n : ℕ). drop n rest) (f ∙ or_len blank rest) ∙ ap (λ (t : List ℕ). drop (position_or_len blank t) t) trimmed_is
 
 front-blank : (b : ℕ) (s : List ℕ) → blank b ≡ true → words_of (b ∷ s) ≡ words_of s
 unfolding words_from
@@ -25,7 +52,7 @@ apart_from w (x ∷ a) b c h = by (blank x) (apart_from [] a b c h) (apart_from 
     by false f g = g
 
 solid_from : (w s : List ℕ) → any blank s ≡ false → words_from w s ≡ ended (w ++ s)
-unfolding words_from any
+unfolding words_from
 solid_from w [] h = ap ended (sym (append-nil w))
 solid_from w (b ∷ s) h =
     let p = or_parts (blank b) (any blank s) h in
@@ -36,24 +63,30 @@ pub splits : Split
 splits = (apart_from [], solid_from [])
 
 -- the first word is what stands before the first blank
-from-word : (w s : List ℕ) → words_from w s ≡ ended (w ++ take (leading false s) s) ++ words_of (drop (leading false s) s)
-unfolding words_from leading
+from-word : (w s : List ℕ) → words_from w s ≡ ended (w ++ take (position_or_len blank s) s) ++ words_of (drop (position_or_len blank s) s)
+unfolding words_from
 from-word w [] = ap ended (sym (append-nil w)) ∙ sym (append-nil (ended (w ++ [])))
 from-word w (b ∷ s) = by (blank b) refl (from-word (w ++ b ∷ []) s)
   where
-    by : (q : Bool) → blank b ≡ q → words_from (w ++ b ∷ []) s ≡ ended ((w ++ b ∷ []) ++ take (leading false s) s) ++ words_of (drop (leading false s) s) →
+    n : ℕ
+    n = position_or_len blank s
+
+    by : (q : Bool) → blank b ≡ q → words_from (w ++ b ∷ []) s ≡ ended ((w ++ b ∷ []) ++ take n s) ++ words_of (drop n s) →
         cond q (ended w ++ words_from [] s) (words_from (w ++ b ∷ []) s)
-        ≡ ended (w ++ take (cond (not q) (suc (leading false s)) 0) (b ∷ s)) ++ words_of (drop (cond (not q) (suc (leading false s)) 0) (b ∷ s))
+        ≡ ended (w ++ take (cond (not q) (1 + n) 0) (b ∷ s)) ++ words_of (drop (cond (not q) (1 + n) 0) (b ∷ s))
     by true p f = ap (λ (y : List (List ℕ)). ended w ++ y) (sym (front-blank b s p)) ∙ ap (λ (y : List ℕ). ended y ++ words_of (b ∷ s)) (sym (append-nil w))
-    by false p f = f ∙ ap (λ (y : List ℕ). ended y ++ words_of (drop (leading false s) s)) (append_assoc w (b ∷ []) (take (leading false s) s))
+    by false p f =
+        let one : 1 + n ≡ suc n = omega arith in
+        rw one (f ∙ ap (λ (y : List ℕ). ended y ++ words_of (drop n s)) (append_assoc w (b ∷ []) (take n s)))
 
 trimmed_words : (s : List ℕ) → words_of (trimmed s) ≡ words_of s
-unfolding leading
 trimmed_words [] = refl
 trimmed_words (b ∷ s) = by (blank b) refl (trimmed_words s)
   where
-    by : (q : Bool) → blank b ≡ q → words_of (trimmed s) ≡ words_of s → words_of (drop (cond q (suc (leading true s)) 0) (b ∷ s)) ≡ words_of (b ∷ s)
-    by true p f = f ∙ sym (front-blank b s p)
+    by : (q : Bool) → blank b ≡ q → words_of (trimmed s) ≡ words_of s → words_of (drop (cond (not (not q)) (1 + position_or_len (λ b. not (blank b)) s) 0) (b ∷ s)) ≡ words_of (b ∷ s)
+    by true p f =
+        let one : 1 + position_or_len (λ b. not (blank b)) s ≡ suc (position_or_len (λ b. not (blank b)) s) = omega arith in
+        rw one (f ∙ sym (front-blank b s p))
     by false p f = refl
 
 word_first : (s : List ℕ) → words_of s ≡ ended (word s) ++ words_of (behind s)
@@ -62,16 +95,20 @@ word_first s = sym (trimmed_words s) ∙ from-word [] (trimmed s)
 
 -- where the first word is empty there is none
 word_none : (s : List ℕ) → word s ≡ [] → words_of s ≡ []
-unfolding words_from word leading
+unfolding words_from word
 word_none [] e = refl
 word_none (b ∷ s) e = by (blank b) refl e (word_none s)
   where
-    by : (q : Bool) → blank b ≡ q →
-        take (leading false (drop (cond q (suc (leading true s)) 0) (b ∷ s))) (drop (cond q (suc (leading true s)) 0) (b ∷ s)) ≡ [] →
-        (word s ≡ [] → words_of s ≡ []) → words_of (b ∷ s) ≡ []
-    by true p g f = front-blank b s p ∙ f g
+    first : Bool → List ℕ
+    first q = drop (cond (not (not q)) (1 + position_or_len (λ b. not (blank b)) s) 0) (b ∷ s)
+
+    by : (q : Bool) → blank b ≡ q → take (position_or_len blank (first q)) (first q) ≡ [] → (word s ≡ [] → words_of s ≡ []) → words_of (b ∷ s) ≡ []
+    by true p g f =
+        let one : 1 + position_or_len (λ b. not (blank b)) s ≡ suc (position_or_len (λ b. not (blank b)) s) = omega arith in
+        front-blank b s p ∙ f (rw one at g)
     by false p g f =
-        let z : ◌≡◌ {A = ℕ} 0 1 = let y = sym g ∙ ap (λ (t : Bool). take (cond (not t) (suc (leading false s)) 0) (b ∷ s)) p in cc in
+        let one : 1 + position_or_len blank s ≡ suc (position_or_len blank s) = omega arith in
+        let z : ◌≡◌ {A = ℕ} 0 1 = let y = rw (p, one) at g in cc in
         absurd (omega arith)
 
 field-first : (s w : List ℕ) → word s ≡ w → w ≡ get_or (words_of s) 0 []

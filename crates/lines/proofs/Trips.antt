@@ -1,8 +1,9 @@
 -- What a line asks for by its words.
-use Rattle.std.proofs.Common.{◌≡◌, ℕ, zero, suc, ◌+◌, ◌-◌, ◌^◌, ◌<◌, ◌≤◌, min, Bool, true, false, cond, not, ◌&&◌, ◌||◌, eqb, List, [], ◌∷◌, ◌++◌, length, get_or, is_some, Some, None, decimal, Option, sym, refl, ap, ◌∙◌, arith, lt-ltb}
+use Rattle.std.proofs.Common.{◌≡◌, ℕ, zero, suc, ◌+◌, ◌-◌, ◌^◌, ◌<◌, ◌≤◌, min, Bool, true, false, cond, not, ◌&&◌, ◌||◌, eqb, List, [], ◌∷◌, ◌++◌, length, get_or, take, is_some, Some, None, decimal, Option, sym, refl, ap, ◌∙◌, arith, lt-ltb}
 use borrow.Author.Tests.{apart_eqb, both_ways}
 use Rattle.std.proofs.lemmas.Slice.Eq.{bytes_eq-Decides}
-use Rattle.std.proofs.lemmas.Bool.{or_parts, or_from, eqb-false, cond-false}
+use Rattle.std.proofs.lemmas.Bool.{or_parts, or_from, cond-false}
+use Rattle.std.proofs.lemmas.List.Folds.{list_any-append}
 use Rattle.std.specs.List.{AllByRecursion}
 use Rattle.std.specs.Str.{bytes_eq}
 use Rattle.model.specs.Lists.{any}
@@ -16,7 +17,6 @@ use Rattle.lines.specs.Words.{blank, unended}
 use Rattle.lines.specs.Numbers.{numeral, narrowed, fitting}
 use Rattle.lines.specs.Requests.{missing, level_of, judged, part, plain, slot_only, begin_of, read_of, write_of, asked}
 use Rattle.lines.specs.Laws.{ended, words_from, words_of, names, NoCall, level_name, spelt, spaced, Sayable, RoundTrip}
-use Rattle.lines.proofs.Scan.{no_return}
 use Rattle.lines.proofs.Splits.{splits, asked_of, parsed-by}
 use Rattle.lines.proofs.Digits.{numeral-decimal, narrow_small, any-decimal, some_decimal}
 
@@ -25,12 +25,10 @@ same_not true v w e h = absurd (h ((bytes_eq-Decides v w).0 e))
 same_not false v w e h = refl
 
 none-same : (w : List ℕ) (ns : List (List ℕ)) → AllByRecursion (λ (n : List ℕ). w ≡ n → ⊥) ns → any (bytes_eq w) ns ≡ false
-unfolding any
 none-same w [] h = refl
 none-same w (n ∷ ns) h = or_from (bytes_eq w n) (any (bytes_eq w) ns) (same_not (bytes_eq w n) w n refl h.0) (none-same w ns h.1)
 
 none_named : (w : List ℕ) (ns : List (List ℕ)) → any (bytes_eq w) ns ≡ false → AllByRecursion (λ (n : List ℕ). w ≡ n → ⊥) ns
-unfolding any
 none_named w [] h = tt
 none_named w (n ∷ ns) h =
     let p = or_parts (bytes_eq w n) (any (bytes_eq w) ns) h in
@@ -48,7 +46,6 @@ pick w (n ∷ ns) [] = Unknown
 pick w (n ∷ ns) (r ∷ rs) = cond (bytes_eq w n) r (pick w ns rs)
 
 pick-none : (w : List ℕ) (ns : List (List ℕ)) (rs : List Request) → any (bytes_eq w) ns ≡ false → pick w ns rs ≡ Unknown
-unfolding any
 pick-none w [] rs h = refl
 pick-none w (n ∷ ns) [] h = refl
 pick-none w (n ∷ ns) (r ∷ rs) h =
@@ -56,7 +53,6 @@ pick-none w (n ∷ ns) (r ∷ rs) h =
     cond-false (bytes_eq w n) r (pick w ns rs) p.0 ∙ pick-none w ns rs p.1
 
 pick_known : (w : List ℕ) (ns : List (List ℕ)) (rs : List Request) → length ns ≡ length rs → AllByRecursion (λ (r : Request). r ≡ Unknown → ⊥) rs → pick w ns rs ≡ Unknown → any (bytes_eq w) ns ≡ false
-unfolding any
 pick_known w [] rs l k h = refl
 pick_known w (n ∷ ns) [] l k h = absurd (omega arith)
 pick_known w (n ∷ ns) (r ∷ rs) l k h = by (bytes_eq w n) h (pick_known w ns rs (omega arith) k.1)
@@ -164,12 +160,9 @@ abbrev IsWord : List ℕ → Type 0
 IsWord w = (0 < length w) × (any blank w ≡ false) × (any cr w ≡ false)
 
 pub any_join : (p : ℕ → Bool) (xs ys : List ℕ) → any p xs ≡ false → any p ys ≡ false → any p (xs ++ ys) ≡ false
-unfolding any
-any_join p [] ys h k = k
-any_join p (x ∷ xs) ys h k = let q = or_parts (p x) (any p xs) h in or_from (p x) (any p (xs ++ ys)) q.0 (any_join p xs ys q.1 k)
+any_join p xs ys h k = list_any-append p xs ys ∙ or_from (any p xs) (any p ys) h k
 
 any_at : (p : ℕ → Bool) (s : List ℕ) (i : ℕ) → p 0 ≡ false → any p s ≡ false → p (get_or s i 0) ≡ false
-unfolding any
 any_at p [] i z h = z
 any_at p (b ∷ s) zero z h = (or_parts (p b) (any p s) h).0
 any_at p (b ∷ s) (suc i) z h = any_at p s i z (or_parts (p b) (any p s) h).1
@@ -188,13 +181,13 @@ spaced_words (w ∷ (v ∷ ws)) h =
     ∙ ap (λ (x : List (List ℕ)). w ∷ x) (spaced_words (v ∷ ws) h.1)
 
 spaced-plain : (ws : List (List ℕ)) → AllByRecursion IsWord ws → any cr (spaced ws) ≡ false
-unfolding any spaced
+unfolding spaced
 spaced-plain [] h = refl
 spaced-plain (w ∷ []) h = h.0.2
 spaced-plain (w ∷ (v ∷ ws)) h = any_join cr w (32 ∷ spaced (v ∷ ws)) h.0.2 (spaced-plain (v ∷ ws) h.1)
 
 unended-same : (s : List ℕ) → any cr s ≡ false → unended s ≡ s
-unended-same s h = sym (no_return s (eqb-false (get_or s (length s - 1) 0) 13 (any_at cr s (length s - 1) refl h)))
+unended-same s h = cond-false (eqb (get_or s (length s - 1) 0) 13) (take (length s - 1) s) s (any_at cr s (length s - 1) refl h)
 
 no_blank : (b : ℕ) → 48 ≤ b → b ≤ 57 → blank b ≡ false
 no_blank b l u = or_from (eqb b 32) (eqb b 9) (apart_eqb b 32 (λ e. omega arith)) (apart_eqb b 9 (λ e. omega arith))
@@ -207,13 +200,11 @@ number_word n h = (
 )
 
 level-word : (l : Level) → IsWord (level_name l)
-unfolding any
 level-word Latest = (omega arith, refl, refl)
 level-word Snapshot = (omega arith, refl, refl)
 level-word Serial = (omega arith, refl, refl)
 
 spelt_words : (c : Call) → Sayable c → AllByRecursion IsWord (spelt c)
-unfolding any
 spelt_words (Begin s None) h = tt
 spelt_words (Begin s (Some l)) h = ((omega arith, refl, refl), (number_word s h, (level-word l, tt)))
 spelt_words (Read s a b) h = ((omega arith, refl, refl), (number_word s h.0, (number_word a h.1, (number_word b h.2, tt))))

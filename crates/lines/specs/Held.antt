@@ -1,33 +1,19 @@
 -- Lines, gathered from chunks of the input. A line ends at a line feed (10).
-use Rattle.std.specs.Prelude.{◌≡◌, ℕ, suc, Bool, true, false, cond, List, [], ◌∷◌, ◌++◌, length, take, Some, None, Ok, Err, Option, Result, ◌==◌, nat_lt}
+use Rattle.std.specs.Prelude.{◌≡◌, ℕ, ◌+◌, ◌<◌, ◌≤◌, cond, List, [], ◌∷◌, ◌++◌, length, take, drop, Some, None, Ok, Err, Option, Result, ◌==◌, nat_lt}
+use Rattle.std.specs.List.{position_or_len}
 use Rattle.model.specs.declared.Request.{Request}
 use Rattle.model.specs.declared.Request.TheVariants.{Unknown}
+use Rattle.arrayvec.specs.ArrayVec.{ArrayVec}
 use Rattle.lines.specs.declared.buffer.LineBuffer.{LineBuffer}
 use Rattle.lines.specs.Requests.{parsed, missing}
 
--- what is made of the bytes before the first line feed: e where the input ends before one, n where one comes
-unfoldable pub front : {A : Type 0} → A → A → (ℕ → A → A) → List ℕ → A
-front e n f [] = e
-front e n f (b ∷ bs) = cond (b == 10) n (f b (front e n f bs))
-
--- the bytes before the first line feed
-abbrev pub up_to : List ℕ → List ℕ
-up_to s = front [] [] (λ b bs. b ∷ bs) s
-
--- whether a line ends
-abbrev pub ends : List ℕ → Bool
-ends s = front false true (λ b q. q) s
-
--- how many bytes there are up to and with the first line feed
-abbrev pub past : List ℕ → ℕ
-past s = front 0 1 (λ b n. suc n) s
-
--- the buffer holds the first 1,024 bytes of t, and says whether t is longer
-abbrev pub Held : List ℕ → ℕ → Bool → List ℕ → Type 0
-Held bytes len long t = (take len bytes ≡ take 1024 t) × (long ≡ nat_lt 1024 (length t))
+-- the bytes of the line t are held, or only that there are more than 1,024 of them
+abbrev pub Held : Option (ArrayVec ℕ) → List ℕ → Type 0
+Held (Some v) t = (v.items ≡ t) × (length t ≤ 1024)
+Held None t = 1024 < length t
 
 abbrev pub Holds : LineBuffer → List ℕ → Type 0
-Holds b t = Held b.bytes b.len b.long t
+Holds b t = Held b.line t
 
 -- what a line asks for; one of more than 1,024 bytes is no call
 abbrev pub request_of : List ℕ → Request
@@ -51,10 +37,17 @@ pending t s = scan (λ u v. v) (λ u. u) t s
 abbrev pub last_of : List ℕ → Option Request
 last_of t = cond (missing t) None (Some (request_of t))
 
--- the input s was taken up to and with its first line feed, where the line before it is t so far
-abbrev pub Stepped : List ℕ → List ℕ → LineBuffer → Option Request → Type 0
-Stepped t s b (Some q) = (ends s ≡ true) × (q ≡ request_of (t ++ up_to s)) × Holds b []
-Stepped t s b None = (ends s ≡ false) × Holds b (t ++ up_to s)
+-- how many bytes stand before the first line feed
+abbrev pub line_end : List ℕ → ℕ
+line_end s = position_or_len (λ b. b == 10) s
+
+-- the first line that ends in the input s
+abbrev pub first_line : List ℕ → List ℕ
+first_line s = take (line_end s) s
+
+-- a line ends in the input s, and rest stands behind its line feed
+abbrev pub Ends : List ℕ → List ℕ → Type 0
+Ends s rest = (line_end s < length s) × (rest ≡ drop (line_end s + 1) s)
 
 -- the requests of the chunk s were put behind others, and the buffer has what is left of it; where memory fails, those
 -- that were put are a first part of them

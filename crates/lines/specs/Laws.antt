@@ -1,5 +1,5 @@
 -- What the reading of lines and the writing of answers come to, in words of their own.
-use Rattle.std.specs.Prelude.{◌≡◌, ℕ, ◌+◌, ◌-◌, ◌*◌, ◌^◌, ◌<◌, min, true, false, cond, List, [], ◌∷◌, ◌++◌, length, Some, None, vec_items, codes, decimal, Option, ◌≢◌, nat_eq, slice_index_or}
+use Rattle.std.specs.Prelude.{◌≡◌, ℕ, ◌+◌, ◌-◌, ◌*◌, ◌^◌, ◌<◌, min, true, false, cond, List, [], ◌∷◌, ◌++◌, length, Some, None, Ok, Err, vec_items, codes, decimal, Option, Result, ◌≢◌, nat_eq, slice_index_or}
 use Rattle.std.specs.List.{AllByRecursion}
 use Rattle.std.specs.Str.{all_ascii_digits}
 use Rattle.model.specs.Lists.{any}
@@ -9,7 +9,8 @@ use Rattle.model.specs.declared.Call.{Call}
 use Rattle.model.specs.declared.Call.TheVariants.{Begin, Read, Write, Commit, Abort, Sweep, Sync, Stop, Show}
 use Rattle.model.specs.declared.Entry.{Entry}
 use Rattle.model.specs.declared.Answer.{Answer}
-use Rattle.model.specs.declared.Answer.TheVariants.{Done, Found, Committed, Shown, Refused}
+use Rattle.model.specs.declared.Answer.TheVariants.{Done, Found, Committed, Shown}
+use Rattle.model.specs.declared.Refusal.{Refusal}
 use Rattle.model.specs.declared.Request.TheVariants.{Whole, Unknown}
 use Rattle.lines.specs.Words.{blank, unended}
 use Rattle.lines.specs.Numbers.{numeral}
@@ -153,13 +154,13 @@ OnlyWhole = (s : List ℕ) (c : Call) → parsed s ≡ Whole c → Asks c (line_
 abbrev pub Line : List ℕ → Type 0
 Line t = (s : List ℕ) × (t ≡ s ++ 10 ∷ []) × (any (λ (b : ℕ). nat_eq b 10) s ≡ false)
 
-abbrev pub InLine : Answer → Type 0
-InLine Done = text_of Done ≡ []
-InLine (Found v) = AllByRecursion (λ (e : Entry). (e.key < 2 ^ 32) × (e.value < 2 ^ 32)) (vec_items v) → Line (text_of (Found v))
-InLine (Committed n) = n < 2 ^ 32 → Line (text_of (Committed n))
-InLine (Shown s) = s.commits < 2 ^ 32 → s.versions < 2 ^ 32 → s.busy < 2 ^ 32 → Line (text_of (Shown s))
-InLine (Refused y) = Line (text_of (Refused y))
+abbrev pub InLine : Result Answer Refusal → Type 0
+InLine (Ok Done) = text_of (Ok Done) ≡ []
+InLine (Ok (Found v)) = AllByRecursion (λ (e : Entry). (e.key < 2 ^ 32) × (e.value < 2 ^ 32)) (vec_items v) → Line (text_of (Ok (Found v)))
+InLine (Ok (Committed n)) = n < 2 ^ 32 → Line (text_of (Ok (Committed n)))
+InLine (Ok (Shown s)) = s.commits < 2 ^ 32 → s.versions < 2 ^ 32 → s.busy < 2 ^ 32 → Line (text_of (Ok (Shown s)))
+InLine (Err y) = Line (text_of (Err y))
 
 -- an answer is nothing or one line, where its numbers are of 32 bits
 abbrev pub OneLine : Type 0
-OneLine = (a : Answer) → InLine a
+OneLine = (r : Result Answer Refusal) → InLine r

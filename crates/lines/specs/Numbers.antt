@@ -1,26 +1,16 @@
 -- Numbers in decimal digits. A number above 4,294,967,295 is only known to be that: it counts as 4,294,967,296.
-use Rattle.std.specs.Prelude.{ℕ, ◌+◌, ◌-◌, ◌*◌, min, Bool, false, cond, ◌&&◌, List, [], ◌∷◌, length, Some, None, Option, ◌==◌, nat_le, nat_lt}
+use Rattle.std.specs.Prelude.{ℕ, ◌+◌, ◌-◌, ◌*◌, min, Bool, false, cond, not, ◌||◌, List, length, Some, None, Option, ◌==◌, nat_lt}
+use Rattle.std.specs.List.{fold, list_all}
 use Rattle.std.specs.Option.{unwrap_or}
+use Rattle.std.specs.Char.{is_ascii_digit}
 
-abbrev pub digit : ℕ → Bool
-digit b = nat_le 48 b && nat_le b 57
-
--- a digit more behind n
-abbrev pub more : ℕ → ℕ → Option ℕ
-more n b = cond (digit b) (Some (min (n * 10 + (b - 48)) 4294967296)) None
-
-abbrev pub and_then : Option ℕ → (ℕ → Option ℕ) → Option ℕ
-and_then None f = None
-and_then (Some x) f = f x
-
--- digits read on behind n
-unfoldable pub digits : ℕ → List ℕ → Option ℕ
-digits n [] = Some n
-digits n (b ∷ bs) = and_then (more n b) (λ m. digits m bs)
+-- the number with the digit b behind it
+abbrev pub with_digit : ℕ → ℕ → ℕ
+with_digit n b = min (n * 10 + (b - 48)) 4294967296
 
 -- the number that a word says, if it has a digit and nothing else
-unfoldable pub numeral : List ℕ → Option ℕ
-numeral s = cond (length s == 0) None (digits 0 s)
+abbrev pub numeral : List ℕ → Option ℕ
+numeral s = cond (length s == 0 || not (list_all is_ascii_digit s)) None (Some (fold with_digit 0 s))
 
 -- the number, at most 4,294,967,295, or another where there is none
 abbrev pub narrowed : Option ℕ → ℕ → ℕ

@@ -1,16 +1,14 @@
 // The conversation: bytes of input to requests, and answers to text.
 #![tactic(auto)]
 
+mod answers;
 mod buffer;
-mod bytes;
 mod number;
+mod output;
 mod requests;
-mod short;
-mod text;
 mod words;
 
+pub use answers::{say, say_number};
 pub use buffer::LineBuffer;
-pub use bytes::say_bytes;
+pub use output::Text;
 pub use requests::parse;
-pub use short::say_number;
-pub use text::say;

@@ -1,6 +1,7 @@
 // What a line asks for.
-ghost use Rattle.std.specs.Prelude.{◌≡◌};
-ghost use Rattle.lines.specs.Requests.{level_of, judged, plain, slot_only, begin_of, read_of, write_of, asked, parsed};
+ghost use Rattle.std.specs.Prelude.{◌≡◌, is_some};
+ghost use Rattle.lines.specs.Numbers.{numeral};
+ghost use Rattle.lines.specs.Requests.{level_of, part, judged, plain, slot_only, begin_of, read_of, write_of, asked, parsed};
 ghost use Rattle.lines.specs.Laws.{Split, Return, SameWords, Number, NoCall, RoundTrip, OnlyWhole};
 
 use crate::number::*;
@@ -11,143 +12,88 @@ use model::{Call, Level, Request};
 fn level(word: &[u8]) -> Option<Level>
     ensures { result ≡ level_of word.now }
 {
-    if word.len() == 0 || is(word, "latest") {
-        Some(Level::Latest)
-    } else if is(word, "snapshot") {
-        Some(Level::Snapshot)
-    } else if is(word, "serial") {
-        Some(Level::Serial)
-    } else {
-        None
+    match word {
+        b"" => Some(Level::Latest),
+        b"latest" => Some(Level::Latest),
+        b"snapshot" => Some(Level::Snapshot),
+        b"serial" => Some(Level::Serial),
+        _ => None,
     }
 }
 
-fn judge(call: Call, slot: bool, whole: bool) -> Request
-    ensures { result ≡ judged call slot whole }
-{
-    if !slot {
-        Request::Slotless(call)
-    } else if whole {
-        Request::Whole(call)
-    } else {
-        Request::Faulty(call)
+impl Words<'_> {
+    // A call with nothing behind its name.
+    fn bare(self, call: Call) -> Request
+        ensures { result ≡ plain call self.entry.first.now }
+    {
+        if self.first.is_empty() {
+            Request::Whole(call)
+        } else {
+            Request::Faulty(call)
+        }
     }
-}
 
-// A call with nothing behind its name.
-fn bare(call: Call, first: &[u8]) -> Request
-    ensures { result ≡ plain call first.now }
-{
-    judge(call, true, first.len() == 0)
-}
+    // The call at the slot that the line names, by whether the rest of the line is whole.
+    fn at_slot<F: Fn(u32) -> Call>(self, call: F, whole: bool) -> Request
+        requires { F.IsAlwaysCallable call }
+        ensures { (c : Call) × F.post call (part self.entry.first.now) c × (result ≡ judged c (is_some (numeral self.entry.first.now)) whole) }
+    {
+        let slot = number(self.first);
+        let call = call(narrow(slot, 0));
+        match slot {
+            None => Request::Slotless(call),
+            Some(_) if whole => Request::Whole(call),
+            Some(_) => Request::Faulty(call),
+        }
+    }
 
-fn commit(first: &[u8], second: &[u8]) -> Request
-    ensures { result ≡ slot_only (λ s. Call.Commit s) first.now second.now }
-{
-    let slot = number(first);
-    judge(
-        Call::Commit {
-            slot: narrow(slot, 0),
-        },
-        slot.is_some(),
-        second.len() == 0,
-    )
-}
+    fn begin(self) -> Request
+        ensures { result ≡ begin_of self.entry.first.now self.entry.second.now self.entry.third.now }
+    {
+        let level = level(self.second);
+        let whole = !self.second.is_empty() && self.third.is_empty();
+        self.at_slot(|slot| Call::Begin { slot, level }, whole)
+    }
 
-fn abort(first: &[u8], second: &[u8]) -> Request
-    ensures { result ≡ slot_only (λ s. Call.Abort s) first.now second.now }
-{
-    let slot = number(first);
-    judge(
-        Call::Abort {
-            slot: narrow(slot, 0),
-        },
-        slot.is_some(),
-        second.len() == 0,
-    )
-}
+    fn read(self) -> Request
+        ensures { result ≡ read_of self.entry.first.now self.entry.second.now self.entry.third.now self.entry.fourth.now }
+    {
+        let start = number(self.second);
+        let end = number(self.third);
+        let from = narrow(start, 0);
+        let to = narrow(end, from as u64 + 1);
+        let whole = start.is_some() && end.is_some() && self.fourth.is_empty();
+        self.at_slot(|slot| Call::Read { slot, from, to }, whole)
+    }
 
-fn begin(first: &[u8], second: &[u8], third: &[u8]) -> Request
-    ensures { result ≡ begin_of first.now second.now third.now }
-{
-    let slot = number(first);
-    let call = Call::Begin {
-        slot: narrow(slot, 0),
-        level: level(second),
-    };
-    judge(call, slot.is_some(), second.len() > 0 && third.len() == 0)
-}
+    fn write(self) -> Request
+        ensures { result ≡ write_of self.entry.first.now self.entry.second.now self.entry.third.now self.entry.fourth.now }
+    {
+        let key = number(self.second);
+        let value = number(self.third);
+        let whole = key.is_some() && fits_word(value) && self.fourth.is_empty();
+        let key = narrow(key, 0);
+        let value = narrow(value, 0);
+        self.at_slot(|slot| Call::Write { slot, key, value }, whole)
+    }
 
-fn read(first: &[u8], second: &[u8], third: &[u8], fourth: &[u8]) -> Request
-    ensures { result ≡ read_of first.now second.now third.now fourth.now }
-{
-    let slot = number(first);
-    let start = number(second);
-    let end = number(third);
-    let from = narrow(start, 0);
-    let to = narrow(end, from as u64 + 1);
-    let call = Call::Read {
-        slot: narrow(slot, 0),
-        from,
-        to,
-    };
-    judge(
-        call,
-        slot.is_some(),
-        start.is_some() && end.is_some() && fourth.len() == 0,
-    )
-}
-
-fn write(first: &[u8], second: &[u8], third: &[u8], fourth: &[u8]) -> Request
-    ensures { result ≡ write_of first.now second.now third.now fourth.now }
-{
-    let slot = number(first);
-    let key = number(second);
-    let value = number(third);
-    let call = Call::Write {
-        slot: narrow(slot, 0),
-        key: narrow(key, 0),
-        value: narrow(value, 0),
-    };
-    judge(
-        call,
-        slot.is_some(),
-        key.is_some() && fits_word(value) && fourth.len() == 0,
-    )
-}
-
-// By the first word of the line.
-fn request(w: Words<'_>) -> Request
-    ensures { result ≡ asked w.entry.name.now w.entry.first.now w.entry.second.now w.entry.third.now w.entry.fourth.now }
-{
-    if is(w.name, "begin") {
-        return begin(w.first, w.second, w.third);
+    // By the first word of the line.
+    fn request(self) -> Request
+        ensures { result ≡ asked self.entry.name.now self.entry.first.now self.entry.second.now self.entry.third.now self.entry.fourth.now }
+    {
+        match self.name {
+            b"begin" => self.begin(),
+            b"read" => self.read(),
+            b"write" => self.write(),
+            b"commit" => self.at_slot(|slot| Call::Commit { slot }, self.second.is_empty()),
+            b"abort" => self.at_slot(|slot| Call::Abort { slot }, self.second.is_empty()),
+            b"sweep" => self.bare(Call::Sweep),
+            b"sync" => self.bare(Call::Sync),
+            b"stop" => self.bare(Call::Stop),
+            b"show" => self.bare(Call::Show),
+            _ => Request::Unknown,
+        }
     }
-    if is(w.name, "read") {
-        return read(w.first, w.second, w.third, w.fourth);
-    }
-    if is(w.name, "write") {
-        return write(w.first, w.second, w.third, w.fourth);
-    }
-    if is(w.name, "commit") {
-        return commit(w.first, w.second);
-    }
-    if is(w.name, "abort") {
-        return abort(w.first, w.second);
-    }
-    if is(w.name, "sweep") {
-        return bare(Call::Sweep, w.first);
-    }
-    if is(w.name, "sync") {
-        return bare(Call::Sync, w.first);
-    }
-    if is(w.name, "stop") {
-        return bare(Call::Stop, w.first);
-    }
-    if is(w.name, "show") {
-        return bare(Call::Show, w.first);
-    }
-    Request::Unknown
 }
 
 // What a line asks for, given without its line feed.
@@ -161,5 +107,5 @@ pub fn parse(line: &[u8]) -> Request
     ensures trip { RoundTrip }
     ensures whole { OnlyWhole }
 {
-    request(words_of(without_return(line)))
+    Words::of(without_return(line)).request()
 }

@@ -1,7 +1,7 @@
 // The words of a line.
-ghost use Rattle.std.specs.Prelude.{◌≡◌, ◌≤◌, length};
-ghost use Rattle.std.specs.Str.{bytes_eq};
-ghost use Rattle.lines.specs.Words.{blank, fits, leading, word, behind, field, unended};
+ghost use Rattle.std.specs.Prelude.{◌≡◌, not};
+ghost use Rattle.std.specs.List.{position};
+ghost use Rattle.lines.specs.Words.{blank, word, behind, field, unended};
 
 // The first words of a line; one that is missing is empty.
 #[derive(Clone, Copy)]
@@ -19,23 +19,18 @@ fn is_blank(b: u8) -> bool
     b == b' ' || b == b'\t'
 }
 
-fn is_kind(b: u8, blanks: bool) -> bool
-    ensures { result ≡ fits blanks b }
+// Where the first word starts.
+fn word_start(s: &[u8]) -> Option<usize>
+    ensures { result ≡ position (λ b. not (blank b)) s.now }
 {
-    if blanks { is_blank(b) } else { !is_blank(b) }
+    s.iter().position(|b| !is_blank(*b))
 }
 
-// How many bytes in front are blanks, or are none.
-fn run_of(s: &[u8], blanks: bool) -> usize
-    ensures value { result ≡ leading blanks s.now }
-    ensures bound { result ≤ length s.now }
+// Where the first blank stands.
+fn word_end(s: &[u8]) -> Option<usize>
+    ensures { result ≡ position blank s.now }
 {
-    for (i, b) in s.iter().enumerate() {
-        if !is_kind(*b, blanks) {
-            return i;
-        }
-    }
-    s.len()
+    s.iter().position(|b| is_blank(*b))
 }
 
 // The first word, and what stands behind it.
@@ -43,47 +38,38 @@ fn split(s: &[u8]) -> (&[u8], &[u8])
     ensures first { result.0.now ≡ word s.now }
     ensures rest { result.1.now ≡ behind s.now }
 {
-    let start = run_of(s, true);
+    let start = word_start(s).unwrap_or(s.len());
     let s = &s[start..];
-    let end = run_of(s, false);
-    (&s[0..end], &s[end..])
+    let end = word_end(s).unwrap_or(s.len());
+    s.split_at(end)
 }
 
 // The line without the carriage return at its end.
 pub fn without_return(line: &[u8]) -> &[u8]
     ensures { result.now ≡ unended line.now }
 {
-    let n = line.len();
-    if n > 0 && line[n - 1] == b'\r' {
-        return &line[0..n - 1];
-    }
-    line
+    line.strip_suffix(b"\r").unwrap_or(line)
 }
 
-pub fn words_of(line: &[u8]) -> Words<'_>
-    ensures name { result.name.now ≡ field 0 line.now }
-    ensures first { result.first.now ≡ field 1 line.now }
-    ensures second { result.second.now ≡ field 2 line.now }
-    ensures third { result.third.now ≡ field 3 line.now }
-    ensures fourth { result.fourth.now ≡ field 4 line.now }
-{
-    let (name, rest) = split(line);
-    let (first, rest) = split(rest);
-    let (second, rest) = split(rest);
-    let (third, rest) = split(rest);
-    let (fourth, _) = split(rest);
-    Words {
-        name,
-        first,
-        second,
-        third,
-        fourth,
+impl<'a> Words<'a> {
+    pub fn of(line: &'a [u8]) -> Self
+        ensures name { result.name.now ≡ field 0 line.now }
+        ensures first { result.first.now ≡ field 1 line.now }
+        ensures second { result.second.now ≡ field 2 line.now }
+        ensures third { result.third.now ≡ field 3 line.now }
+        ensures fourth { result.fourth.now ≡ field 4 line.now }
+    {
+        let (name, rest) = split(line);
+        let (first, rest) = split(rest);
+        let (second, rest) = split(rest);
+        let (third, rest) = split(rest);
+        let (fourth, _) = split(rest);
+        Words {
+            name,
+            first,
+            second,
+            third,
+            fourth,
+        }
     }
-}
-
-// Whether these are the bytes of a name.
-pub fn is(s: &[u8], name: &str) -> bool
-    ensures { result ≡ bytes_eq s.now name.now }
-{
-    s == name.as_bytes()
 }

@@ -1,5 +1,5 @@
 -- The number of each refusal. Where several apply to one line, the lowest is answered.
-use Rattle.std.specs.Prelude.{ℕ}
+use Rattle.std.specs.Prelude.{ℕ, Some, None, Ok, Err, Option, Result}
 use Rattle.model.specs.declared.Refusal.{Refusal}
 use Rattle.model.specs.declared.Refusal.TheVariants.{OutOfBounds, SlotState, TooMany, WriteConflict, Pivot, NoRoom, LastCommit, BadFile, BadLine, NoMemory}
 
@@ -14,3 +14,8 @@ number_of LastCommit = 7
 number_of BadFile = 8
 number_of BadLine = 9
 number_of NoMemory = 99
+
+-- why a result is a refusal, if it is one
+abbrev pub refusal_in : {X : Type 0} → Result X Refusal → Option Refusal
+refusal_in (Ok x) = None
+refusal_in (Err y) = Some y

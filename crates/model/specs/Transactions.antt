@@ -65,6 +65,10 @@ answered done r = answer_in (after empty (take r.at done)) r
 abbrev pub names : ℕ → List Entry → Bool
 names k es = any (λ (e : Entry). nat_eq e.key k) es
 
+-- a key of the writes is above 4,095
+abbrev pub outside : List Entry → Bool
+outside es = any (λ (e : Entry). nat_le 4096 e.key) es
+
 -- the key is in the range, and the transaction had not written it when it read
 abbrev pub looks_at : ℕ → Read → Bool
 looks_at k r = nat_le r.from k && nat_lt k r.to && not (names k r.own)

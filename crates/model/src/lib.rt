@@ -3,6 +3,13 @@
 
 ghost use Rattle.std.specs.Prelude.{◌≡◌};
 ghost use Rattle.model.specs.Refusals.{number_of};
+ghost use Rattle.model.specs.Transactions.{names, outside};
+ghost use Rattle.model.specs.declared.Refusal.TheVariants.{NoMemory};
+
+use std::alloc::AllocError;
+
+// How many keys there are.
+pub const KEYS: u32 = 4096;
 
 // The level of a transaction: what its reads are shown and when it may commit.
 #[derive(Clone, Copy, PartialEq, Eq, Debug)]
@@ -13,7 +20,7 @@ pub enum Level {
 }
 
 // A key with the value that is written to it or found at it. The value 0 means that nothing is there.
-#[derive(Clone, Copy, PartialEq, Eq, Debug)]
+#[derive(Clone, Copy, Default, PartialEq, Eq, Debug)]
 pub struct Entry {
     pub key: u32,
     pub value: u32,
@@ -34,7 +41,7 @@ pub enum Call {
 }
 
 // What one line asks for. A line with a fault is answered by the number of the fault unless a lower one
-// applies to the call, so the call is handed on with it.
+// applies to the call, so the call is handed on with it: three of four cases have one, so this is no `Result`.
 #[derive(Clone, Copy, PartialEq, Eq, Debug)]
 pub enum Request {
     // a call with nothing wrong in its line
@@ -47,47 +54,44 @@ pub enum Request {
     Unknown,
 }
 
-// Why a call is refused; `number_of` has the number of each.
+// Why a call is refused. Each is its number; `number_of` has them too.
 #[derive(Clone, Copy, PartialEq, Eq, Debug)]
 pub enum Refusal {
     // a slot, key, level or range that there isn't
-    OutOfBounds,
+    OutOfBounds = 1,
     // the slot is idle, or for a begin it is busy
-    SlotState,
+    SlotState = 2,
     // a 65th read or write of one transaction
-    TooMany,
+    TooMany = 3,
     // a commit that this one did not see wrote a key that it writes
-    WriteConflict,
+    WriteConflict = 4,
     // there would be a pivot
-    Pivot,
+    Pivot = 5,
     // no room for the versions
-    NoRoom,
+    NoRoom = 6,
     // no commit number is left
-    LastCommit,
+    LastCommit = 7,
     // the file can't be read
-    BadFile,
+    BadFile = 8,
     // the line can't be read
-    BadLine,
+    BadLine = 9,
     // no memory
-    NoMemory,
+    NoMemory = 99,
 }
 
 impl Refusal {
     pub fn number(self) -> u8
         ensures { result ≡ number_of self }
     {
-        match self {
-            Refusal::OutOfBounds => 1,
-            Refusal::SlotState => 2,
-            Refusal::TooMany => 3,
-            Refusal::WriteConflict => 4,
-            Refusal::Pivot => 5,
-            Refusal::NoRoom => 6,
-            Refusal::LastCommit => 7,
-            Refusal::BadFile => 8,
-            Refusal::BadLine => 9,
-            Refusal::NoMemory => 99,
-        }
+        self as u8
+    }
+}
+
+impl From<AllocError> for Refusal {
+    ghost from_gives = { λ _ r. r ≡ NoMemory };
+
+    fn from(_: AllocError) -> Refusal {
+        Refusal::NoMemory
     }
 }
 
@@ -99,12 +103,28 @@ pub struct Counts {
     pub busy: u32,
 }
 
-// The answer to one request. A read answers the keys of its range with something there, in rising order.
+// The answer to a request that is not refused. A read answers the keys of its range with something there, in rising order.
 #[derive(PartialEq, Eq, Debug, Drop)]
 pub enum Answer {
     Done,
     Found(Vec<Entry>),
     Committed(u32),
     Shown(Counts),
-    Refused(Refusal),
+}
+
+// What comes of a request.
+pub type Reply = Result<Answer, Refusal>;
+
+// Whether one of the writes is of the key.
+pub fn writes_key(writes: &[Entry], key: u32) -> bool
+    ensures { result ≡ names key writes.now }
+{
+    writes.iter().any(|w| w.key == key)
+}
+
+// Whether a key of the writes is above 4,095.
+pub fn outside(writes: &[Entry]) -> bool
+    ensures { result ≡ outside writes.now }
+{
+    writes.iter().any(|w| w.key >= KEYS)
 }

@@ -2,7 +2,6 @@
 use Rattle.std.proofs.Common.{◌≡◌, ℕ, zero, suc, ◌+◌, ◌<◌, ◌≤◌, true, false, cond, eqb, ◌⊎◌, List, [], ◌∷◌, ◌++◌, map, sym, refl, ap, ◌∙◌, inl, inr, arith}
 use Rattle.std.proofs.lemmas.Bool.{cases_Bool, or_parts, eqb-true, eqb-false, eq-eqb, ne_eqb, le-leb, lt-ltb, and_from, not_from_false, cond-true, cond-false}
 use Rattle.model.specs.declared.Entry.{Entry}
-use Rattle.model.specs.Lists.{any}
 use Rattle.model.specs.Transactions.{State, Read, Txn, put, puts, after, empty, found_from, names, looks_at, looked, reads_some, both_write}
 use Rattle.conflicts.specs.Laws.{nth}
 use Rattle.order.proofs.Members.{In, clash, any-from, any_some}
@@ -16,7 +15,7 @@ module _ (k : ℕ) where
 
   -- writes of other keys leave what stood there
   pub puts_aside : (es : List Entry) (m : State) → names k es ≡ false → puts es m k ≡ m k
-  unfolding puts any
+  unfolding puts
   puts_aside [] m h = refl
   puts_aside (e ∷ es) m h =
       let p = or_parts (eqb e.key k) (names k es) h in
@@ -24,7 +23,7 @@ module _ (k : ℕ) where
 
   -- where one of them is of the key, what stood there does not matter
   pub puts-named : (es : List Entry) (m n : State) → names k es ≡ true → puts es m k ≡ puts es n k
-  unfolding puts any
+  unfolding puts
   puts-named [] m n h = clash false h refl
   puts-named (e ∷ es) m n h = go (cases_Bool (eqb e.key k)) (puts-named es (put e m) (put e n))
     where

@@ -6,6 +6,7 @@ use Rattle.std.proofs.lemmas.List.Sorted.{IsPermutation-refl, IsPermutation-cons
 use Rattle.std.proofs.lemmas.Bool.{or_left, or_right, or_from, or_cases, or_parts, both_ways, cases_eq, cond-true, cond-false, eq-eqb, ne_eqb, eqb-false, not-true, not_from_true, not_from_false}
 use Rattle.model.specs.Lists.{any, kept}
 use Rattle.conflicts.specs.Marks.{lowest}
+use Rattle.conflicts.proofs.Firsts.{lowest_step}
 use Rattle.order.specs.Order.{without}
 
 abbrev pub In : {A : Type 0} → A → List A → Type 0
@@ -49,13 +50,11 @@ module _ {A : Type 0} where
 
   module _ (p : A → Bool) where
     pub any-from : (x : A) (xs : List A) → In x xs → p x ≡ true → any p xs ≡ true
-    unfolding any
     any-from x [] m e = absurd m
     any-from x (y ∷ ys) (inl q) e = or_left (p y) (any p ys) (sym (ap p q) ∙ e)
     any-from x (y ∷ ys) (inr m) e = or_right (p y) (any p ys) (any-from x ys m e)
 
     pub any_some : (xs : List A) → any p xs ≡ true → (x : A) × In x xs × (p x ≡ true)
-    unfolding any
     any_some [] e = clash false e refl
     any_some (y ∷ ys) e = go (or_cases (p y) (any p ys) e) (any_some ys)
       where
@@ -64,18 +63,15 @@ module _ {A : Type 0} where
         go (inr h) ih = let r = ih h in (r.0, inr r.1, r.2)
 
     pub any_none : (x : A) (xs : List A) → In x xs → any p xs ≡ false → p x ≡ false
-    unfolding any
     any_none x [] m e = absurd m
     any_none x (y ∷ ys) (inl q) e = ap p q ∙ (or_parts (p y) (any p ys) e).0
     any_none x (y ∷ ys) (inr m) e = any_none x ys m (or_parts (p y) (any p ys) e).1
 
     pub none_any : (xs : List A) → ((x : A) → In x xs → p x ≡ false) → any p xs ≡ false
-    unfolding any
     none_any [] h = refl
     none_any (x ∷ xs) h = or_from (p x) (any p xs) (h x (inl refl)) (none_any xs (λ y m. h y (inr m)))
 
     pub in_kept : (x : A) (xs : List A) → In x (kept p xs) → In x xs × (p x ≡ true)
-    unfolding kept
     in_kept x [] m = absurd m
     in_kept x (y ∷ ys) m = go (p y) refl m (in_kept x ys)
       where
@@ -85,7 +81,6 @@ module _ {A : Type 0} where
         go false h n ih = let r = ih n in (inr r.0, r.1)
 
     pub kept_in : (x : A) (xs : List A) → In x xs → p x ≡ true → In x (kept p xs)
-    unfolding kept
     kept_in x [] m e = absurd m
     kept_in x (y ∷ ys) m e = go (p y) refl m (λ n. kept_in x ys n e)
       where
@@ -96,13 +91,11 @@ module _ {A : Type 0} where
         go false h (inr n) ih = ih n
 
     pub kept-all : (xs : List A) → ((x : A) → In x xs → p x ≡ true) → kept p xs ≡ xs
-    unfolding kept
     kept-all [] h = refl
     kept-all (x ∷ xs) h = cond-true (p x) (x ∷ kept p xs) (kept p xs) (h x (inl refl)) ∙ ap (λ l. x ∷ l) (kept-all xs (λ y m. h y (inr m)))
 
     -- those of them that pass another test too
     pub kept-kept : (q r : A → Bool) → ((x : A) → r x ≡ (q x && p x)) → (xs : List A) → kept p (kept q xs) ≡ kept r xs
-    unfolding kept
     kept-kept q r h [] = refl
     kept-kept q r h (x ∷ xs) = go (q x) refl (kept-kept q r h xs)
       where
@@ -116,7 +109,6 @@ Asc [] = Unit {0}
 Asc (x ∷ xs) = ((y : ℕ) → In y xs → x < y) × Asc xs
 
 pub asc-kept : (p : ℕ → Bool) (xs : List ℕ) → Asc xs → Asc (kept p xs)
-unfolding kept
 asc-kept p [] a = tt
 asc-kept p (x ∷ xs) a = go (p x) (asc-kept p xs a.1)
   where
@@ -132,7 +124,6 @@ in_without i j xs m = let r = in_kept (another i) j xs m in (r.0, eqb-false j i 
 
 -- one that is taken out, and then the others
 pub to_front : (i : ℕ) (xs : List ℕ) → Asc xs → In i xs → IsPermutation xs (i ∷ without i xs)
-unfolding kept
 to_front i [] a m = absurd m
 to_front i (x ∷ xs) a (inl e) =
     let self : another i x ≡ false = not_from_true (eqb x i) (eq-eqb x i (sym e)) in
@@ -155,26 +146,32 @@ module _ (p : ℕ → Bool) where
   low xs = lowest (λ i. i) p xs
 
   pub low_is : (i : ℕ) (xs : List ℕ) → Asc xs → In i xs → p i ≡ true → ((j : ℕ) → In j xs → j < i → p j ≡ false) → low xs ≡ Some i
-  unfolding lowest
   low_is i [] a m e h = absurd m
-  low_is i (x ∷ xs) a (inl q) e h = cond-true (p x) (Some x) (low xs) (sym (ap p q) ∙ e) ∙ ap (λ j. Some j) (sym q)
-  low_is i (x ∷ xs) a (inr m) e h = cond-false (p x) (Some x) (low xs) (h x (inl refl) (a.0 i m)) ∙ low_is i xs a.1 m e (λ j n l. h j (inr n) l)
+  low_is i (x ∷ xs) a (inl q) e h = lowest_step (λ i. i) p x xs ∙ cond-true (p x) (Some x) (low xs) (sym (ap p q) ∙ e) ∙ ap (λ j. Some j) (sym q)
+  low_is i (x ∷ xs) a (inr m) e h = lowest_step (λ i. i) p x xs ∙ cond-false (p x) (Some x) (low xs) (h x (inl refl) (a.0 i m)) ∙ low_is i xs a.1 m e (λ j n l. h j (inr n) l)
 
   pub low-none : (xs : List ℕ) → ((j : ℕ) → In j xs → p j ≡ false) → low xs ≡ None
-  unfolding lowest
   low-none [] h = refl
-  low-none (x ∷ xs) h = cond-false (p x) (Some x) (low xs) (h x (inl refl)) ∙ low-none xs (λ j n. h j (inr n))
+  low-none (x ∷ xs) h = lowest_step (λ i. i) p x xs ∙ cond-false (p x) (Some x) (low xs) (h x (inl refl)) ∙ low-none xs (λ j n. h j (inr n))
 
   -- where one passes there is a lowest
   pub low_some : (x : ℕ) (xs : List ℕ) → In x xs → p x ≡ true → (i : ℕ) × In i xs × (p i ≡ true) × (low xs ≡ Some i)
-  unfolding lowest
   low_some x [] m e = absurd m
-  low_some x (y ∷ ys) m e = go (p y) refl m (λ n. low_some x ys n e)
+  low_some x (y ∷ ys) m e = let r = go (p y) refl m (λ n. low_some x ys n e) in (r.0, r.1, r.2, lowest_step (λ i. i) p y ys ∙ r.3)
     where
       go : (b : Bool) → p y ≡ b → In x (y ∷ ys) → (In x ys → (i : ℕ) × In i ys × (p i ≡ true) × (low ys ≡ Some i)) → (i : ℕ) × In i (y ∷ ys) × (p i ≡ true) × (cond b (Some y) (low ys) ≡ Some i)
       go true h n ih = (y, inl refl, h, refl)
       go false h (inl q) ih = clash (p y) (sym (ap p q) ∙ e) h
       go false h (inr n) ih = let r = ih n in (r.0, inr r.1, r.2, r.3)
+
+  -- the lowest is one of them
+  pub low_in : (i : ℕ) (xs : List ℕ) → low xs ≡ Some i → In i xs
+  low_in i [] e = let z : ◌≡◌ {A = ℕ} 0 1 = cc in absurd (omega arith)
+  low_in i (x ∷ xs) e = go (p x) (sym (lowest_step (λ i. i) p x xs) ∙ e) (low_in i xs)
+    where
+      go : (b : Bool) → cond b (Some x) (low xs) ≡ Some i → (low xs ≡ Some i → In i xs) → In i (x ∷ xs)
+      go true h ih = inl cc
+      go false h ih = inr (ih h)
 
 pub in_counting : (a n i : ℕ) → a ≤ i → i < a + n → In i (range_with_len a n)
 in_counting a zero i l h = absurd (omega arith)

@@ -1,14 +1,12 @@
 -- The small examples.
 use Rattle.std.proofs.Common.{zero, suc, [], ◌∷◌, refl, arith}
-use Rattle.model.specs.Lists.{any, kept}
 use Rattle.model.specs.Commits.{numbered}
-use Rattle.conflicts.specs.Marks.{lowest}
 use Rattle.conflicts.specs.Laws.{Allowed}
 use Rattle.order.specs.Order.{lined, OneMoment, AllSerial}
 use Rattle.order.specs.Examples.{Examples, reading, writing}
 
 allowed : Allowed (writing ∷ reading [] ∷ [])
-unfolding any numbered
+unfolding numbered
 allowed zero l = (refl, omega arith)
 allowed (suc zero) l = (refl, omega arith)
 allowed (suc (suc n)) l = absurd (omega arith)
@@ -24,5 +22,5 @@ serial (suc zero) l = refl
 serial (suc (suc n)) l = absurd (omega arith)
 
 pub examples : Examples
-unfolding any kept lowest lined
+unfolding lined
 examples = record { passed = refl; passed-allowed = allowed; passed-moment = moment; passed-serial = serial; skewed = refl }

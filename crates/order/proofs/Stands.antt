@@ -49,7 +49,7 @@ module _ (a b : Commit) where
   stands-missed n l h = for_a_reason n (or_right (wrote_first a b) (was_seen a b || did_not_see a b) (or_right (was_seen a b) (did_not_see a b) (and_from _ _ (le-leb a.txn.begin b.number l) h)))
 
 any-numbered : (p : Commit → Bool) (n : ℕ) (ts : List Txn) (i : ℕ) (d : Txn) → i < length ts → p (record { number = n + i; txn = get_or ts i d }) ≡ true → any p (numbered n ts) ≡ true
-unfolding any numbered
+unfolding numbered
 any-numbered p n [] i d l h = absurd (omega arith)
 any-numbered p n (t ∷ ts) zero d l h =
     let e : n ≡ n + 0 = omega arith in

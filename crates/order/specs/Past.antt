@@ -20,10 +20,6 @@ abbrev pub as_serial : Txn → Txn
 as_serial t = record { level = Serial; begin = t.begin; reads = t.reads; writes = t.writes }
 
 -- the outcome of keeping t
-abbrev pub PastCopied : Txn → {E : Type 0} → Result Past E → Type 0
-PastCopied t (Ok p) = past_of p ≡ as_serial t
-PastCopied t (Err y) = Unit {0}
-
 abbrev pub PastKept : Txn → Result Past Refusal → Type 0
 PastKept t (Ok p) = past_of p ≡ as_serial t
 PastKept t (Err y) = y ≡ NoMemory

@@ -3,6 +3,7 @@
 
 mod laws;
 mod line;
+mod lineup;
 mod past;
 
 pub use laws::serializable_stands;

@@ -2,10 +2,10 @@ ghost use Rattle.std.specs.Prelude.{◌≡◌};
 ghost use Rattle.model.specs.Transactions.{both_write};
 ghost use Rattle.transactions.specs.Transactions.{model_of};
 ghost use Rattle.order.specs.Order.{stands_before};
-ghost use Rattle.order.specs.Past.{commit_of, PastKept, PastCopied};
+ghost use Rattle.order.specs.Past.{commit_of, PastKept};
 
-use model::*;
-use std::alloc::{AllocError, Global};
+use model::{writes_key, *};
+use std::alloc::Global;
 use transactions::*;
 
 // What is kept of a committed Serial: how many commits were done when it began, and its reads and writes in their order.
@@ -21,12 +21,7 @@ pub struct Past {
 fn both_write(a: &[Entry], b: &[Entry]) -> bool
     ensures { result ≡ both_write a.now b.now }
 {
-    for w in a {
-        if writes_key(b, w.key) {
-            return true;
-        }
-    }
-    false
+    a.iter().any(|w| writes_key(b, w.key))
 }
 
 impl Past {
@@ -34,21 +29,10 @@ impl Past {
     pub fn of(heap: Global, t: &Transaction) -> Result<Past, Refusal>
         ensures { PastKept (model_of t.now) result }
     {
-        match Past::copied(heap, t) {
-            Ok(p) => Ok(p),
-            Err(_) => Err(Refusal::NoMemory),
-        }
-    }
-
-    fn copied(heap: Global, t: &Transaction) -> Result<Past, AllocError>
-        ensures { PastCopied (model_of t.now) result }
-    {
-        let reads = Vec::from_slice(heap, t.own_reads())?;
-        let writes = Vec::from_slice(heap, t.own_writes())?;
         Ok(Past {
             begin: t.begin,
-            reads,
-            writes,
+            reads: Vec::from_slice(heap, t.own_reads())?,
+            writes: Vec::from_slice(heap, t.own_writes())?,
         })
     }
 

@@ -48,7 +48,7 @@ stands_same h r s p q st = record {
 pub as_itself : (t : Txn) → t.level ≡ Serial → as_serial t ≡ t
 as_itself t p = ap (λ (v : Level). record { level = v; begin = t.begin; reads = t.reads; writes = t.writes }) (sym p)
 
-module _ (h : List Event) (r s : Runs) (a : Answer) (st : Stands h r) where
+module _ (h : List Event) (r s : Runs) (a : Result Answer Refusal) (st : Stands h r) where
   -- a call that changes no commits
   pub call_done : (c : Call) → AnswersTo (Whole c) r.store.now s.store.now a → s.pasts ≡ r.pasts → txns (led (next h c)) ≡ txns (led h) → begins_other c ≡ false → CallDone c h s a
   call_done c w p q b = go (w.engine st.ready h st.engine)
@@ -102,7 +102,7 @@ module _ (h : List Event) (r s : Runs) (a : Answer) (st : Stands h r) where
         go (inr d) = inr (d.0, record { ready = w.ready ∙ st.ready; engine = d.1; kept = kept; serial = st.serial }, d.2)
 
     -- a commit for which there is no memory, by the answer z to a line with a fault
-    module _ (z : Answer) (w : AnswersTo (Faulty (Commit i)) r.store.now s.store.now z) (q : s.pasts ≡ r.pasts) where
+    module _ (z : Result Answer Refusal) (w : AnswersTo (Faulty (Commit i)) r.store.now s.store.now z) (q : s.pasts ≡ r.pasts) where
       stands_still : Stands h s
       stands_still = record {
         ready = w.ready ∙ st.ready;

@@ -56,29 +56,29 @@ pub record Stands (h : List Event) (r : Runs) : Type 0 where
   pub serial : OnlySerial (led h)
 
 -- the call is answered by the rules; or memory is wanted, and all is as before
-abbrev pub CallDone : Call → List Event → Runs → Answer → Type 0
+abbrev pub CallDone : Call → List Event → Runs → Result Answer Refusal → Type 0
 CallDone c h s a =
     (Stands (h ++ (Called c ∷ [])) s × (reply_of a ≡ reply_to c (led h))) ⊎ ((may_lack c (led h) ≡ true) × Stands h s × (reply_of a ≡ refused NoMemory))
 
 -- a line with a fault changes nothing
-abbrev pub RequestDone : Request → List Event → Runs → Answer → Type 0
+abbrev pub RequestDone : Request → List Event → Runs → Result Answer Refusal → Type 0
 RequestDone (Whole c) h s a = CallDone c h s a
 RequestDone (Faulty c) h s a = Stands h s × (reply_of a ≡ refused (fault_refusal (refusal_of c (led h))))
 RequestDone (Slotless c) h s a = Stands h s × (reply_of a ≡ refused (slotless_refusal c))
 RequestDone Unknown h s a = Stands h s × (reply_of a ≡ refused BadLine)
 
 -- whatever events led here, the request is answered as it is taken among Serials
-abbrev pub Answered : Request → Runs → Runs → Answer → Type 0
+abbrev pub Answered : Request → Runs → Runs → Result Answer Refusal → Type 0
 Answered q r s a = (h : List Event) → Stands h r → RequestDone (as_serial q) h s a
 
-abbrev pub Calls : Call → Runs → Runs → Answer → Type 0
+abbrev pub Calls : Call → Runs → Runs → Result Answer Refusal → Type 0
 Calls c r s a = (h : List Event) → Stands h r → Fitting c → CallDone c h s a
 
-abbrev pub Commits : ℕ → Runs → Runs → Answer → Type 0
+abbrev pub Commits : ℕ → Runs → Runs → Result Answer Refusal → Type 0
 Commits i r s a = (h : List Event) → Stands h r → CallDone (Commit i) h s a
 
 -- the same of the transaction t that runs in the slot
-abbrev pub CommitsOf : ℕ → Txn → Runs → Runs → Answer → Type 0
+abbrev pub CommitsOf : ℕ → Txn → Runs → Runs → Result Answer Refusal → Type 0
 CommitsOf i t r s a = (h : List Event) (l : Life) → Stands h r → slot_at i (led h) ≡ Some l → t ≡ l.txn → CallDone (Commit i) h s a
 
 -- the line of the commits: run alone in this order one by one, each has the answers that it was given

@@ -1,12 +1,13 @@
 // The engine with what is kept of each commit.
-ghost use Rattle.std.specs.Prelude.{◌≡◌, true, [], map, slice_index_or};
-ghost use Rattle.transactions.specs.Slots.{idle, run_of};
+ghost use Rattle.std.specs.Prelude.{◌≡◌, true, []};
+ghost use Rattle.transactions.specs.Slots.{run_of};
 ghost use Rattle.history.specs.Engine.{fresh};
+ghost use Rattle.store.specs.Fits.{run_at};
 ghost use Rattle.store.specs.Calls.{Is};
 ghost use Rattle.store.specs.Answers.{ready_of, AnswersTo};
 ghost use Rattle.serial_runs.specs.Standing.{Stands};
 
-use model::{Answer, Request};
+use model::{Reply, Request};
 use order::Past;
 use std::alloc::Global;
 use store::Store;
@@ -38,13 +39,13 @@ impl<'r, 't, 's, 'a> Runs<'r, 't, 's, 'a> {
 impl Runs<'_, '_, '_, '_> {
     // What runs in the slot.
     fn slot(&self, slot: u32) -> Slot
-        ensures { run_of result ≡ slice_index_or (map run_of self.now.store.now.tables.now.slots) slot idle }
+        ensures { run_of result ≡ run_at slot self.now.store.now.tables.now.slots }
     {
         self.store.slot(slot)
     }
 
     // Asks the engine.
-    fn ask(&mut self, request: Request) -> Answer
+    fn ask(&mut self, request: Request) -> Reply
         ensures answers { AnswersTo request self.old.store.now self.new.store.now result }
         ensures pasts { self.new.pasts ≡ self.old.pasts }
     {

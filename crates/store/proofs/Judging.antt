@@ -64,6 +64,26 @@ judged_of e snd v w ss n fit i l here t at es fs p₁ p₂ conflict room r q p m
     (subst (λ (x : Txn). VerdictTold w x conflict r) at p)
     (subst (λ (x : Txn). RoomBy v x.writes room) at (subst (λ (x : List Entry). RoomBy v x room) p₂ m))
 
+-- where the check refuses, that is why
+pub refused-first : (e : Engine) → Sound e → (v : Versions) (w : Window) (ss : List Slot) (n : ℕ) → Fits e v w ss n → (i : ℕ) (l : Life) → slot_at i e ≡ Some l →
+    (t : Txn) → t ≡ l.txn → (es : List Entry) → es ≡ t.writes → (conflict : Bool) (y : Refusal) → ConflictBy v es t.begin conflict → VerdictTold w t conflict (Some y) →
+    Some y ≡ commit_refusal e l
+refused-first e snd v w ss n fit i l here t at es p conflict y q told =
+    ap (λ (o : Option Refusal). first_of o (first_of (when (ltb 32768 (version_count e + keys_of l.txn.writes)) NoRoom) (when (leb 4294967295 (count e)) LastCommit)))
+    (verdict-told e snd v w ss n fit i l here conflict (Some y)
+    (subst (λ (x : Txn). ConflictBy v x.writes x.begin conflict) at (subst (λ (x : List Entry). ConflictBy v x t.begin conflict) p q))
+    (subst (λ (x : Txn). VerdictTold w x conflict (Some y)) at told))
+
+-- where it does not, by the room and the number
+pub judged_as : (e : Engine) → Sound e → (v : Versions) (w : Window) (ss : List Slot) (n : ℕ) → Fits e v w ss n → (i : ℕ) (l : Life) → slot_at i e ≡ Some l →
+    (t : Txn) → t ≡ l.txn → (es fs : List Entry) → es ≡ t.writes → fs ≡ t.writes →
+    (conflict room b d : Bool) → ConflictBy v es t.begin conflict → VerdictTold w t conflict None → RoomBy v fs room → room ≡ b → leb 4294967295 n ≡ d →
+    first_of (when (not b) NoRoom) (when d LastCommit) ≡ commit_refusal e l
+judged_as e snd v w ss n fit i l here t at es fs p₁ p₂ conflict room b d q p m x y =
+    ap (λ (k : Bool). first_of (when (not k) NoRoom) (when d LastCommit)) (sym x)
+    ∙ ap (λ (k : Bool). first_of (when (not room) NoRoom) (when k LastCommit)) (sym y)
+    ∙ judged_of e snd v w ss n fit i l here t at es fs p₁ p₂ conflict room None q p m
+
 -- a commit that is not refused has room and a number
 pub commit-fits : (e : Engine) (l : Life) → commit_refusal e l ≡ None → (ltb 32768 (version_count e + keys_of l.txn.writes) ≡ false) × (leb 4294967295 (count e) ≡ false)
 commit-fits e l p =

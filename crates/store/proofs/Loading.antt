@@ -1,10 +1,8 @@
 -- A file read in pieces, and the engine that comes of it.
-use Rattle.std.proofs.Common.{◌≡◌, ℕ, zero, suc, ◌+◌, ◌-◌, ◌*◌, ◌^◌, ◌<◌, ◌≤◌, true, false, ltb, List, [], ◌++◌, length, take, drop, is_some, is_err, Some, None, Ok, Err, vec_items, Result, sym, refl, ap, ◌∙◌, subst, zero-add, arith}
+use Rattle.std.proofs.Common.{◌≡◌, ℕ, zero, suc, ◌+◌, ◌*◌, ◌^◌, ◌<◌, ◌≤◌, true, false, ltb, List, [], ◌++◌, length, drop, is_some, is_err, Some, None, Ok, Err, vec_items, Result, sym, refl, ap, ◌∙◌, subst, zero-add, arith}
 use borrow.Author.Tests.{both_ways}
-use Rattle.std.proofs.lemmas.List.{length-drop, drop-drop, drop-append-le, take-append-le, take_all}
-use Rattle.std.proofs.lemmas.List.Edits.{paste_all}
+use Rattle.std.proofs.lemmas.List.{length-drop, drop-drop, drop-append-le}
 use Rattle.std.proofs.lemmas.Bool.{cond_both, ltb-true}
-use lib.Seq.{paste}
 use Rattle.model.specs.declared.Entry.{Entry}
 use Rattle.journal.specs.declared.types.Fault.TheVariants.{WrongNumber}
 use Rattle.journal.specs.declared.types.Survey.{Survey}
@@ -12,8 +10,8 @@ use Rattle.journal.specs.Parsing.{Reading, whole, short, faulty, parsed}
 use Rattle.journal.specs.Files.{Opened, good, bad, after, onward, turned, replayed, opened, behind, on_good, surveyed}
 use Rattle.journal.proofs.Reading.{whole-within}
 use Rattle.journal.proofs.Pieces.{in_pieces}
-use Rattle.store.specs.declared.opening.Opening.TheVariants.{Whole, Bad}
-use Rattle.store.specs.declared.reader.Flaw.{Flaw}
+use Rattle.journal.specs.declared.types.Flaw.{Flaw}
+use Rattle.store.specs.declared.opening.OpenError.TheVariants.{Bad}
 use Rattle.store.specs.declared.reader.Reader.{Reader}
 use Rattle.store.specs.declared.stage.Stage.TheVariants.{Unreadable}
 use Rattle.store.specs.declared.state.Tables.{Tables}
@@ -62,13 +60,6 @@ ends-within bs o e =
 placed : (a b n : ℕ) → a ≡ b → b + n ≤ 390 * 2 ^ 32 → place a n ≡ b + n
 placed a b n p h = omega (arith, p, h)
 
--- the first n bytes are gone
-pub passed-left : (xs ys zs : List ℕ) (n m k : ℕ) → m ≡ length xs - n → k ≡ length xs - n → ys ≡ paste xs 0 (drop n xs) m → zs ≡ take k ys → zs ≡ drop n xs
-passed-left xs ys zs n m k a b p q =
-    let l : length (drop n xs) ≡ length xs - n = length-drop n xs in
-    q ∙ ap (take k) (p ∙ paste_all xs 0 (drop n xs) m (a ∙ sym l))
-    ∙ take-append-le k (drop n xs) (drop (0 + m) xs) (omega (arith, l, b)) ∙ take_all k (drop n xs) (omega (arith, l, b))
-
 pub reads_none : (r : Reader) (s : Tables) → Blank r → Restored [] s → ReadSo (opened []) [] r s
 unfolding turned
 reads_none r s blank so = (so, blank.0, blank.1, blank.2)
@@ -96,23 +87,23 @@ module _ (bs piece : List ℕ) where
       subst (λ (x : Opened). ReadSo x (bs ++ piece) r t)
       (sym (in_pieces 0 bs piece ∙ ap (λ (x : Opened). on_good x (λ ws used. behind ws used (replayed (0 + length ws) (drop used bs ++ piece)))) e)) so
 
-  module _ (q p : Reader) (t : Tables) (found : Survey) (ws : List (List Entry)) (used : ℕ) where
+  module _ (q p : Reader) (t : Tables) (found : Result Survey Flaw) (ws : List (List Entry)) (used : ℕ) where
     -- what was left and the piece, by what is found in them
     reads-rest : used ≤ length bs → vec_items q.left ≡ drop used bs ++ piece → q.at ≡ used → q.flaw ≡ None → Surveyed found q p →
         (x : Opened) → found ≡ surveyed (length ws) x → RestoredBy ws x t → reach (behind ws used x) ≤ 390 * 2 ^ 32 → ReadSo (behind ws used x) (bs ++ piece) p t
     unfolding behind
     reads-rest inside left at flaw did (good more k) e so end =
-        let past = subst (λ (y : Survey). Surveyed y q p) e did in (
+        let past = subst (λ (y : Result Survey Flaw). Surveyed y q p) e did in (
           so,
           past.0 ∙ ap (drop k) (left ∙ sym (drop-append-le used bs piece inside)) ∙ drop-drop k used (bs ++ piece),
           past.1 ∙ placed q.at used k at end,
           past.2 ∙ flaw,
         )
     reads-rest inside left at flaw did (bad place why) e so end =
-        subst (λ (y : Survey). Surveyed y q p) e did ∙ ap (λ (n : ℕ). Some (record { at = n; why = why })) (placed q.at used place at end)
+        subst (λ (y : Result Survey Flaw). Surveyed y q p) e did ∙ ap (λ (n : ℕ). Some (record { at = n; why = why })) (placed q.at used place at end)
 
   -- the piece behind the bytes so far
-  pub reads_more : (r q p : Reader) (s t : Tables) (found : Survey) (o : Opened) → opened bs ≡ o → ReadSo o bs r s → is_some r.flaw ≡ false →
+  pub reads_more : (r q p : Reader) (s t : Tables) (found : Result Survey Flaw) (o : Opened) → opened bs ≡ o → ReadSo o bs r s → is_some r.flaw ≡ false →
       vec_items q.left ≡ vec_items r.left ++ piece → q.at ≡ r.at → q.flaw ≡ r.flaw → Replays (vec_items q.left) s t found → Surveyed found q p → ReadSo (opened (bs ++ piece)) (bs ++ piece) p t
   reads_more r q p s t found (bad at₁ why) e so none left at flaw done did = absurd (flawed r _ so none)
   reads_more r q p s t found (good ws used) e so none left at flaw done did =
@@ -130,17 +121,17 @@ filled_by : (ws : List (List Entry)) (t : Tables) (x : Opened) → RestoredBy ws
 filled_by ws t (good more used) so = (ws ++ more, so)
 filled_by ws t (bad at why) so = (ws ++ so.0, so.1)
 
-pub still_filled : (bs : List ℕ) (s t : Tables) (found : Survey) → Replays bs s t found → Filled s → Filled t
+pub still_filled : (bs : List ℕ) (s t : Tables) (found : Result Survey Flaw) → Replays bs s t found → Filled s → Filled t
 still_filled bs s t found done (ws, so) = filled_by ws t (replayed (length ws) bs) (done ws so).1
 
 -- the file ends: it has no flaw, or it has one
-pub opens_whole : (o : Opened) (bs : List ℕ) (r : Reader) (s : Tables) (t : Store) (n : ℕ) → ReadSo o bs r s → r.flaw ≡ None → n ≡ r.at → ready_of t ≡ true → Settles s t.tables.now → OpensBy o t (Whole n)
-opens_whole (good ws used) bs r s t n so none at on done = (ap Whole (at ∙ so.2), on, done ws so.0)
+pub opens_whole : (o : Opened) (bs : List ℕ) (r : Reader) (s : Tables) (t : Store) (n : ℕ) → ReadSo o bs r s → r.flaw ≡ None → n ≡ r.at → ready_of t ≡ true → Settles s t.tables.now → OpensBy o t (Ok n)
+opens_whole (good ws used) bs r s t n so none at on done = (ap Ok (at ∙ so.2), on, done ws so.0)
 opens_whole (bad at₁ why) bs r s t n so none at on done = absurd (none_some (sym none ∙ so))
 
-pub opens_bad : (o : Opened) (bs : List ℕ) (r : Reader) (s : Tables) (t : Store) (f : Flaw) → ReadSo o bs r s → r.flaw ≡ Some f → t.stage ≡ Unreadable → Is fresh t.tables.now → OpensBy o t (Bad f)
+pub opens_bad : (o : Opened) (bs : List ℕ) (r : Reader) (s : Tables) (t : Store) (f : Flaw) → ReadSo o bs r s → r.flaw ≡ Some f → t.stage ≡ Unreadable → Is fresh t.tables.now → OpensBy o t (Err (Bad f))
 opens_bad (good ws used) bs r s t f so some off none = absurd (none_some (sym so.3 ∙ some))
 opens_bad (bad at why) bs r s t f so some off none =
     let e : Some f ≡ Some (record { at = at; why = why }) = sym some ∙ so in
     let same : f ≡ record { at = at; why = why } = cc in
-    (ap Bad same, off, none)
+    (ap (λ (x : Flaw). Err (Bad x)) same, off, none)

@@ -1,20 +1,21 @@
 -- What goes to the journal.
-use Rattle.std.proofs.Common.{◌≡◌, ℕ, ◌+◌, ◌-◌, ◌*◌, ◌<◌, ◌≤◌, Bool, true, false, cond, not, ltb, leb, List, [], ◌∷◌, ◌++◌, map, length, drop, Some, sym, refl, ap, ◌∙◌, subst, inl, arith}
+use Rattle.std.proofs.Common.{◌≡◌, ℕ, ◌+◌, ◌-◌, ◌*◌, ◌≤◌, Bool, true, false, not, ltb, leb, List, [], ◌∷◌, ◌++◌, map, length, drop, Some, Ok, Err, Result, sym, refl, ap, ◌∙◌, subst, inl, arith}
 use lib.ListN.{length-map}
 use Rattle.std.proofs.lemmas.List.{append-nil, drop_all, drop_at, map_push, take_all}
-use Rattle.std.proofs.lemmas.Bool.{and_from, or_right, or_parts, or_from, lt-ltb, le-ltb, leb-true, leb-false, le-leb, both_ways}
+use Rattle.std.proofs.lemmas.Bool.{and_from, or_right, lt-ltb, leb-true, leb-false, le-leb, both_ways}
 use Rattle.std.specs.List.{AllByRecursion}
 use Rattle.model.specs.declared.Answer.{Answer}
 use Rattle.model.specs.declared.Call.{Call}
+use Rattle.model.specs.declared.Refusal.{Refusal}
 use Rattle.model.specs.declared.Call.TheVariants.{Begin, Read, Write, Commit, Abort, Sweep, Sync, Stop, Show}
 use Rattle.model.specs.declared.Entry.{Entry}
-use Rattle.model.specs.Lists.{any}
 use Rattle.model.specs.Transactions.{Txn, is_serial}
-use Rattle.versions.specs.Writes.{outside}
+use Rattle.model.specs.Transactions.{outside}
 use Rattle.journal.specs.declared.gather.Journal.{Journal}
+use Rattle.journal.specs.declared.types.Unfit.{Unfit}
 use Rattle.journal.specs.Held.{held_of, room_of, Appended}
 use Rattle.journal.specs.Files.{file_from, file_of}
-use Rattle.journal.specs.Records.{record_of, strays, fits, FineCommit}
+use Rattle.journal.specs.Records.{record_of, fits, FineCommit}
 use Rattle.journal.proofs.Joins.{file_push}
 use Rattle.history.specs.Engine.{Life, Engine, txn_of, txns, count, slot_at, performed, replied, on_begin, on_read, on_write}
 use Rattle.history.specs.Pasts.{writes_of}
@@ -39,10 +40,10 @@ nothing_new e f j same =
     }
 
 -- one commit more, and its record
-pub one-new : (e : Engine) (l : Life) (i j : Journal) (n : ℕ) (es : List Entry) → n ≡ count e → es ≡ l.txn.writes → (r : Bool) → r ≡ true → Appended n es i j r → FineCommit es →
+pub one-new : (e : Engine) (l : Life) (i j : Journal) (n : ℕ) (es : List Entry) → n ≡ count e → es ≡ l.txn.writes → {A : Type 0} (u : A) → Appended n es i j (Ok u) → FineCommit es →
     Recorded e (entered e l) i j
 unfolding file_from
-one-new e l i j n es p q r ok done fine =
+one-new e l i j n es p q u done fine =
     let long : length (map writes_of (txns e)) ≡ count e = length-map (txns e) writes_of ∙ length-map e.done txn_of in
     let all : writes_in (entered e l) ≡ writes_in e ++ (es ∷ []) =
     ap (map writes_of) (map_push txn_of e.done l) ∙ map_push writes_of (txns e) l.txn ∙ ap (λ (x : List Entry). writes_in e ++ (x ∷ [])) (sym q) in
@@ -50,8 +51,8 @@ one-new e l i j n es p q r ok done fine =
     let bare : records_in e (entered e l) ≡ record_of n es = ap (file_from (count e)) one ∙ append-nil (record_of (count e) es) ∙ ap (λ (k : ℕ). record_of k es) (sym p) in
     let at : 0 + length (writes_in e) ≡ n = omega (arith, long, p) in
     record {
-      bytes = done.1 ∙ ap (λ (b : Bool). cond b (held_of i ++ record_of n es) (held_of i)) ok ∙ ap (λ (bs : List ℕ). held_of i ++ bs) (sym bare);
-      room = done.2 ∙ ap (λ (b : Bool). cond b (room_of i - length (record_of n es)) (room_of i)) ok ∙ ap (λ (bs : List ℕ). room_of i - length bs) (sym bare);
+      bytes = done.1 ∙ ap (λ (bs : List ℕ). held_of i ++ bs) (sym bare);
+      room = done.2 ∙ ap (λ (bs : List ℕ). room_of i - length bs) (sym bare);
       file =
           ap file_of all ∙ file_push 0 (writes_in e) es ∙ ap (λ (k : ℕ). file_of (writes_in e) ++ record_of k es) at ∙ ap (λ (bs : List ℕ). file_of (writes_in e) ++ bs) (sym bare);
       fine = subst (AllByRecursion FineCommit) (sym one) (fine, tt);
@@ -96,18 +97,9 @@ performed-same Stop e n = ap (map txn_of) (take_all (count e) e.done (omega arit
 performed-same Show e n = refl
 
 -- a call that commits nothing
-pub done-by : (c d : Call) (s t : Tables) (j : Journal) (a : Answer) → c ≡ d → NoCommit d → ((e : Engine) → Is e s → reply_of a ≡ replied d e) → Performs d s t → PerformsRecording c s j t j a
+pub done-by : (c d : Call) (s t : Tables) (j : Journal) (a : Result Answer Refusal) → c ≡ d → NoCommit d → ((e : Engine) → Is e s → reply_of a ≡ replied d e) → Performs d s t → PerformsRecording c s j t j a
 done-by c d s t j a p n says does =
     subst (λ (x : Call). PerformsRecording x s j t j a) (sym p) (λ e snd fit free. inl (does e snd fit free, says e fit, nothing_new e (performed d e) j (performed-same d e n)))
-
--- the same writes are outside for the versions and stray for the journal
-strays_as : (es : List Entry) → outside es ≡ false → strays es ≡ false
-unfolding any
-strays_as [] p = refl
-strays_as (e ∷ es) p =
-    let h = or_parts (leb 4096 e.key) (outside es) p in
-    let k : e.key < 4096 = leb-false 4096 e.key h.0 in
-    or_from (ltb 4095 e.key) (strays es) (le-ltb 4095 e.key (omega arith)) (strays_as es h.1)
 
 -- a journal with room for the largest record has room for the writes of any transaction
 fits-any : (es : List Entry) (room : ℕ) → length es ≤ 64 → outside es ≡ false → leb 390 room ≡ true → fits es room ≡ true
@@ -115,12 +107,12 @@ unfolding fits
 fits-any es room few keys h =
     let r : 390 ≤ room = leb-true 390 room h in
     and_from (leb (length es) 64) _ (le-leb (length es) 64 few)
-    (and_from (leb (6 + 6 * length es) room) _ (le-leb (6 + 6 * length es) room (omega arith)) (ap not (strays_as es keys)))
+    (and_from (leb (6 + 6 * length es) room) _ (le-leb (6 + 6 * length es) room (omega arith)) (ap not keys))
 
-pub never_short : (e : Engine) → Sound e → (k : ℕ) (l : Life) → slot_at k e ≡ Some l → (es : List Entry) → es ≡ l.txn.writes → (i j : Journal) (n : ℕ) (r : Bool) →
-    Appended n es i j r → leb 390 (room_of i) ≡ true → r ≡ false → ⊥
-never_short e snd k l here es q i j n r done room off =
-    both_ways r off (done.0 ∙ fits-any es (room_of i) (subst (λ (x : List Entry). length x ≤ 64) (sym q) (snd.under k l here).writes) (ap outside q ∙ (snd.under k l here).keys) room)
+pub never_short : (e : Engine) → Sound e → (k : ℕ) (l : Life) → slot_at k e ≡ Some l → (es : List Entry) → es ≡ l.txn.writes → (i j : Journal) (n : ℕ) (A : Type 0) (why : Unfit) →
+    Appended {A = A} n es i j (Err why) → leb 390 (room_of i) ≡ true → ⊥
+never_short e snd k l here es q i j n A why done room =
+    both_ways (fits es (room_of i)) done.0 (fits-any es (room_of i) (subst (λ (x : List Entry). length x ≤ 64) (sym q) (snd.under k l here).writes) (ap outside q ∙ (snd.under k l here).keys) room)
 
 -- no room for the largest record
 pub lack_room : (room : ℕ) (l : Life) → leb 390 room ≡ false → lack_in room (Some l) ≡ true

@@ -9,13 +9,12 @@ use Rattle.std.proofs.lemmas.Bool.{le-leb, lt-leb}
 use Rattle.std.specs.List.{AllByRecursion}
 use Rattle.model.specs.declared.Entry.{Entry}
 use Rattle.model.specs.declared.Refusal.{Refusal}
-use Rattle.model.specs.Lists.{any}
 use Rattle.model.specs.Transactions.{Txn}
 use Rattle.model.specs.Versions.{Version, committed, versions_from, swept, keys_of}
 use Rattle.transactions.specs.declared.slot.Slot.{Slot}
 use Rattle.versions.specs.declared.store.Versions.{Versions}
 use Rattle.versions.specs.Store.{spaces, size, room_for, refusal}
-use Rattle.versions.specs.Writes.{outside}
+use Rattle.model.specs.Transactions.{outside}
 use Rattle.versions.specs.History as versions
 use Rattle.versions.proofs.Named.{keys-few}
 use Rattle.conflicts.specs.declared.window.Window.{Window}
@@ -43,7 +42,6 @@ holds_by ts f v h k l = h k l ∙ ap (swept f) (versions-by k 0 [] ts)
 
 -- the keys of writes that can be are within their bounds
 pub fine-inside : (es : List Entry) → AllByRecursion FineEntry es → outside es ≡ false
-unfolding any
 fine-inside [] h = refl
 fine-inside (e ∷ es) h = rw (lt-leb 4096 e.key (let k : e.key ≤ 4095 = h.0.0 in omega arith)) (fine-inside es h.1)
 

@@ -1,17 +1,22 @@
 -- Slots, and what runs in them.
-use Rattle.std.proofs.Common.{◌≡◌, ℕ, zero, suc, ◌+◌, ◌<◌, ◌≤◌, Bool, true, false, cond, ltb, leb, List, [], ◌∷◌, map, length, get_or, drop, set, Some, None, Option, sym, refl, ap, ◌∙◌, arith, le-ltb, lt-ltb, leb-false, leb-true}
-use Rattle.std.proofs.lemmas.List.{at_drop_more, at_drop_all, get_or-map, map-set}
+use Rattle.std.proofs.Common.{count_by, Ok, Err, ◌≡◌, ℕ, zero, suc, ◌+◌, Bool, true, false, cond, ltb, leb, List, [], ◌∷◌, map, length, get_or, set, Some, None, Option, sym, refl, ap, ◌∙◌, arith, le-ltb, lt-ltb, leb-false, leb-true}
+use Rattle.std.specs.List.{fold}
+use Rattle.std.proofs.lemmas.List.{set-get_or}
 use Rattle.model.specs.declared.Call.{Call}
 use Rattle.model.specs.declared.Level.{Level}
 use Rattle.model.specs.declared.Refusal.{Refusal}
 use Rattle.transactions.specs.declared.slot.Slot.{Slot}
 use Rattle.model.specs.declared.Refusal.TheVariants.{TooMany}
 use Rattle.model.specs.Transactions.{Txn}
-use Rattle.transactions.specs.Slots.{Run, idle, going, run_of, begin_refused, read_refused, write_refused, end_refused}
+use Rattle.transactions.specs.Slots.{Run, idle, going, run_of, is_going, Turns, begin_refused, read_refused, write_refused, end_refused}
 use Rattle.versions.specs.declared.store.Versions.{Versions}
 use Rattle.conflicts.specs.declared.window.Window.{Window}
 use Rattle.history.specs.Engine.{Life, Engine, slot_at, lower, floor_in, busy_in, when, begin_refusal, busy_refusal, slot_refusal}
-use Rattle.store.specs.Fits.{bare, lower_run, floor_of, busy_run, busy_of, Fits}
+use Rattle.store.specs.Fits.{bare, lower_run, floor_of, floor_by, busy_run, busy_of, Fits}
+
+-- a slot in which nothing runs
+abbrev pub none : Slot
+none = record { running = None }
 
 pub zero_one : ◌≡◌ {A = ℕ} 0 1 → ⊥
 zero_one p = omega arith
@@ -21,21 +26,22 @@ mapped f [] i d = refl
 mapped f (x ∷ xs) zero d = refl
 mapped f (x ∷ xs) (suc i) d = mapped f xs i d
 
--- what runs in one slot is changed
-pub changed : (f : Run → Run) (ss : List Slot) (i : ℕ) (d new : Slot) → i < length ss → run_of new ≡ f (run_of (get_or ss i d)) →
-    map run_of (set ss i new) ≡ set (map run_of ss) i (f (get_or (map run_of ss) i idle))
-changed f ss i d new h p = map-set run_of ss i new ∙ ap (set (map run_of ss) i) (p ∙ ap f (sym (get_or-map run_of ss i d idle h)))
+-- what comes of one slot is put there, or nothing is changed, where it is refused
+pub turned : (f : Run → Run) (g : Run → Option Refusal) (ss : List Slot) (i : ℕ) (s new : Slot) → run_of s ≡ get_or (map run_of ss) i idle → Turns f g s (Ok new) →
+    set (map run_of ss) i (run_of new) ≡ set (map run_of ss) i (f (get_or (map run_of ss) i idle))
+turned f g ss i s new p q = ap (set (map run_of ss) i) (q.0 ∙ ap f p)
+
+pub not-turned : (f : Run → Run) (g : Run → Option Refusal) (ss : List Slot) (i : ℕ) (s : Slot) (y : Refusal) → run_of s ≡ get_or (map run_of ss) i idle → Turns f g s (Err y) →
+    map run_of ss ≡ set (map run_of ss) i (f (get_or (map run_of ss) i idle))
+not-turned f g ss i s y p q =
+    sym (set-get_or (map run_of ss) i idle) ∙ ap (set (map run_of ss) i) (sym p ∙ sym q.0 ∙ ap f p)
 
 module _ (p : Level → Bool) where
-  pub floor-more : (n m : ℕ) (ss : List Slot) (i : ℕ) (d : Slot) → i < length ss → m ≡ lower_run p n (run_of (get_or ss i d)) →
-      floor_of p n (map run_of (drop i ss)) ≡ floor_of p m (map run_of (drop (i + 1) ss))
+  -- over slots as over what runs in them
+  pub floor-by : (n : ℕ) (ss : List Slot) → floor_by p n ss ≡ floor_of p n (map run_of ss)
   unfolding floor_of
-  floor-more n m ss i d h e =
-      at_drop_more (λ (y : List Slot). floor_of p n (map run_of y)) ss i d h ∙ ap (λ (k : ℕ). floor_of p k (map run_of (drop (i + 1) ss))) (sym e)
-
-  pub floor-all : (n : ℕ) (ss : List Slot) (i : ℕ) → length ss ≤ i → floor_of p n (map run_of (drop i ss)) ≡ n
-  unfolding floor_of
-  floor-all n ss i h = at_drop_all (λ (x : List Slot). floor_of p n (map run_of x)) ss i h
+  floor-by n [] = refl
+  floor-by n (s ∷ ss) = floor-by (lower_run p n (run_of s)) ss
 
   pub floor-bare : (n : ℕ) (os : List (Option Life)) → floor_of p n (map bare os) ≡ floor_in p n os
   unfolding floor_of floor_in
@@ -43,19 +49,18 @@ module _ (p : Level → Bool) where
   floor-bare n (None ∷ os) = floor-bare n os
   floor-bare n (Some l ∷ os) = floor-bare (lower p n (Some l)) os
 
-pub busy_more : (n m : ℕ) (ss : List Slot) (i : ℕ) (d : Slot) → i < length ss → m ≡ busy_run n (run_of (get_or ss i d)) →
-    busy_of n (map run_of (drop i ss)) ≡ busy_of m (map run_of (drop (i + 1) ss))
-unfolding busy_of
-busy_more n m ss i d h e =
-    at_drop_more (λ (y : List Slot). busy_of n (map run_of y)) ss i d h ∙ ap (λ (k : ℕ). busy_of k (map run_of (drop (i + 1) ss))) (sym e)
+busy-step : (n : ℕ) (r : Run) → n + cond (is_going r) 1 0 ≡ busy_run n r
+busy-step n idle = omega arith
+busy-step n (going t) = refl
 
-pub busy_all : (n : ℕ) (ss : List Slot) (i : ℕ) → length ss ≤ i → busy_of n (map run_of (drop i ss)) ≡ n
+busy-from : (n : ℕ) (ss : List Slot) → fold (λ (m : ℕ) (s : Slot). m + cond (is_going (run_of s)) 1 0) n ss ≡ busy_of n (map run_of ss)
 unfolding busy_of
-busy_all n ss i h = at_drop_all (λ (x : List Slot). busy_of n (map run_of x)) ss i h
+busy-from n [] = refl
+busy-from n (s ∷ ss) =
+    ap (λ (k : ℕ). fold (λ (m : ℕ) (x : Slot). m + cond (is_going (run_of x)) 1 0) k ss) (busy-step n (run_of s)) ∙ busy-from (busy_run n (run_of s)) ss
 
-pub busy_least : (n m : ℕ) (r : Run) → m ≡ busy_run n r → m ≤ n + 1
-busy_least n m idle e = omega arith
-busy_least n m (going t) e = omega arith
+pub counted-busy : (ss : List Slot) → count_by (λ (s : Slot). is_going (run_of s)) ss ≡ busy_of 0 (map run_of ss)
+counted-busy ss = busy-from 0 ss
 
 pub busy_bare : (n : ℕ) (os : List (Option Life)) → busy_of n (map bare os) ≡ n + busy_in os
 unfolding busy_of busy_in

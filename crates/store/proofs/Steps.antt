@@ -1,5 +1,5 @@
 -- What each step of the tables is, by the engine that they are.
-use Rattle.std.proofs.Common.{◌≡◌, ℕ, ◌+◌, ◌≤◌, Bool, true, false, cond, ltb, List, [], ◌∷◌, ◌++◌, map, length, get_or, take, set, replicate, Some, None, Option, sym, refl, ap, ◌∙◌, subst, ⊎_elim, arith, lt-ltb, leb-false}
+use Rattle.std.proofs.Common.{count_by, ◌≡◌, ℕ, ◌+◌, ◌≤◌, Bool, true, false, cond, ltb, List, [], ◌∷◌, ◌++◌, map, length, get_or, take, set, replicate, Some, None, Option, sym, refl, ap, ◌∙◌, subst, ⊎_elim, arith, lt-ltb, leb-false}
 use lib.ListN.{length-map}
 use lib.Seq.{set_out}
 use Rattle.std.proofs.lemmas.List.{map-set, map_push, length_push, take_all}
@@ -10,13 +10,11 @@ use Rattle.model.specs.declared.Call.TheVariants.{Read, Write, Commit, Sweep, Sy
 use Rattle.model.specs.declared.Level.{Level}
 use Rattle.model.specs.declared.Refusal.TheVariants.{TooMany, OutOfBounds, NoRoom}
 use Rattle.model.specs.Transactions as rules
-use Rattle.model.specs.Transactions.{Txn, puts, after, empty, moment, is_serial, is_latest, began, with_write, with_read}
+use Rattle.model.specs.Transactions.{Txn, puts, after, empty, moment, is_serial, is_latest, began, with_write, with_read, outside}
 use Rattle.transactions.specs.declared.slot.Slot.{Slot}
-use Rattle.transactions.specs.declared.slot.Slot.TheVariants.{Idle}
-use Rattle.transactions.specs.Slots.{Run, idle, going, run_of, added_in, noted_in}
+use Rattle.transactions.specs.Slots.{Run, idle, going, run_of, is_going, wrote, read}
 use Rattle.versions.specs.declared.store.Versions.{Versions}
 use Rattle.versions.specs.Store.{spaces, room_for, refusal}
-use Rattle.versions.specs.Writes.{outside}
 use Rattle.versions.specs.History as versions
 use Rattle.conflicts.specs.declared.window.Window.{Window}
 use Rattle.conflicts.specs.Held as conflicts
@@ -27,10 +25,10 @@ use Rattle.history.proofs.Refusing.{goes_through, when-not}
 use Rattle.history.proofs.Lists.{set_cases, none-there, none_some}
 use Rattle.history.proofs.Floors.{floor-below, floor-counts, floor-least}
 use Rattle.history.proofs.Sounding.{sweep_rises}
-use Rattle.store.specs.Fits.{bare, Fits, counts, floor_of, busy_of}
+use Rattle.store.specs.Fits.{bare, Fits, counts, floor_of, floor_by, busy_of}
 use Rattle.store.specs.Calls.{entered}
 use Rattle.store.proofs.Judging.{next}
-use Rattle.store.proofs.Runs.{zero_one, slot-bare, floor-bare, busy_bare}
+use Rattle.store.proofs.Runs.{zero_one, slot-bare, floor-by, floor-bare, counted-busy, busy_bare}
 
 -- a slot that there isn't stays out
 pub put-out : (ss : List Slot) (i : ℕ) (x : Run) → length ss ≤ i → map run_of ss ≡ set (map run_of ss) i x
@@ -54,12 +52,12 @@ module _ (e : Engine) (v : Versions) (w : Window) (ss : List Slot) (n : ℕ) (fi
     runs = p.0 ∙ ap (λ (rs : List Run). set rs i x) fit.runs ∙ ap (set (map bare e.slots) i) q ∙ sym (map-set bare e.slots i o);
   }
 
-  floor_of_lem : (p : Bool) (f : ℕ) → f ≡ floor_of (counts p) n (map run_of ss) → f ≡ floor_in (counts p) (count e) e.slots
+  floor_of_lem : (p : Bool) (f : ℕ) → f ≡ floor_by (counts p) n ss → f ≡ floor_in (counts p) (count e) e.slots
   floor_of_lem p f q =
-      q ∙ ap (λ (k : ℕ). floor_of (counts p) k (map run_of ss)) fit.number ∙ ap (floor_of (counts p) (count e)) fit.runs ∙ floor-bare (counts p) (count e) e.slots
+      q ∙ floor-by (counts p) n ss ∙ ap (λ (k : ℕ). floor_of (counts p) k (map run_of ss)) fit.number ∙ ap (floor_of (counts p) (count e)) fit.runs ∙ floor-bare (counts p) (count e) e.slots
 
   -- the window forgets what no Serial under way needs
-  pub fits_forget : (w₁ : Window) (f : ℕ) → f ≡ floor_of (counts false) n (map run_of ss) → conflicts.Forgot w w₁ f → Fits e v w₁ ss n
+  pub fits_forget : (w₁ : Window) (f : ℕ) → f ≡ floor_by (counts false) n ss → conflicts.Forgot w w₁ f → Fits e v w₁ ss n
   fits_forget w₁ f q g =
       let z : f ≡ floor_in is_serial (count e) e.slots = floor_of_lem false f q in
       let least : fit.window.from ≤ floor_in is_serial (count e) e.slots = floor-least is_serial fit.window.from (count e) e.slots fit.window.within fit.window.serials in
@@ -76,7 +74,7 @@ module _ (e : Engine) (v : Versions) (w : Window) (ss : List Slot) (n : ℕ) (fi
         runs = fit.runs;
       }
 
-  pub fits-sweep : Sound e → (v₁ : Versions) (f : ℕ) → f ≡ floor_of (counts true) n (map run_of ss) → versions.SweepBy f v v₁ → spaces v₁ ≡ spaces v → Fits (performed Sweep e) v₁ w ss n
+  pub fits-sweep : Sound e → (v₁ : Versions) (f : ℕ) → f ≡ floor_by (counts true) n ss → versions.SweepBy f v v₁ → spaces v₁ ≡ spaces v → Fits (performed Sweep e) v₁ w ss n
   fits-sweep snd v₁ f q g r =
       let z : f ≡ sweep_floor e = floor_of_lem true f q in
       let up : e.floor ≤ sweep_floor e = sweep_rises e snd in
@@ -88,9 +86,9 @@ module _ (e : Engine) (v : Versions) (w : Window) (ss : List Slot) (n : ℕ) (fi
         runs = fit.runs;
       }
 
-  pub fits_restart : Sound e → (v₁ : Versions) (w₁ : Window) → versions.SweepBy n v v₁ → spaces v₁ ≡ spaces v → conflicts.Forgot w w₁ n →
-      Fits (restarted (count e) e) v₁ w₁ (replicate 16 Idle) n
-  fits_restart snd v₁ w₁ g r f =
+  pub fits_restart : Sound e → (v₁ : Versions) (w₁ : Window) (s : Slot) → run_of s ≡ idle → versions.SweepBy n v v₁ → spaces v₁ ≡ spaces v → conflicts.Forgot w w₁ n →
+      Fits (restarted (count e) e) v₁ w₁ (replicate 16 s) n
+  fits_restart snd v₁ w₁ s still g r f =
       let all : take (count e) e.done ≡ e.done = take_all (count e) e.done (omega arith) in
       let low : e.floor ≤ n = let h : e.floor ≤ count e = snd.floor in let k : n ≡ count e = fit.number in omega arith in
       let within : fit.window.from ≤ n = let h : fit.window.from ≤ count e = fit.window.within in let k : n ≡ count e = fit.number in omega arith in
@@ -105,15 +103,15 @@ module _ (e : Engine) (v : Versions) (w : Window) (ss : List Slot) (n : ℕ) (fi
           serials = λ i l h s. absurd (none_some (sym (none-there 16 i) ∙ h));
           within = let k : n ≡ count e = fit.number in let j : length (take (count e) e.done) ≡ count e = ap length all in omega arith;
         };
-        runs = refl;
+        runs = ap (λ (x : Run). replicate 16 x) still;
       }
 
-  pub fits-counts : (c : Counts) → c.commits ≡ n → versions.CountBy v c.versions → c.busy ≡ busy_of 0 (map run_of ss) → shown c.commits c.versions c.busy ≡ replied Show e
+  pub fits-counts : (c : Counts) → c.commits ≡ n → versions.CountBy v c.versions → c.busy ≡ count_by (λ (s : Slot). is_going (run_of s)) ss → shown c.commits c.versions c.busy ≡ replied Show e
   fits-counts c p q r =
       let a : c.commits ≡ count e = p ∙ fit.number in
       let b : c.versions ≡ version_count e = q (txns e) e.floor fit.held in
       let z : 0 + busy_in e.slots ≡ busy_in e.slots = omega arith in
-      let d : c.busy ≡ busy_in e.slots = r ∙ ap (busy_of 0) fit.runs ∙ busy_bare 0 e.slots ∙ z in
+      let d : c.busy ≡ busy_in e.slots = r ∙ counted-busy ss ∙ ap (busy_of 0) fit.runs ∙ busy_bare 0 e.slots ∙ z in
       ap (λ (x : ℕ). shown x c.versions c.busy) a ∙ ap (λ (x : ℕ). shown (count e) x c.busy) b ∙ ap (shown (count e) (version_count e)) d
 
   -- one commit more
@@ -174,7 +172,7 @@ pub commit-goes : (e : Engine) (i : ℕ) → refusal_of (Commit i) e ≡ None �
 commit-goes e i p = busy_by (commit_refusal e) (slot_at i e) (goes_through (Commit i) e p).1
 
 pub fits-write : (e : Engine) (v : Versions) (w : Window) (ss : List Slot) (n : ℕ) → Fits e v w ss n → (v₁ : Versions) (w₁ : Window) (ts : List Slot) (m : ℕ) (i k x : ℕ) (r s : Run) →
-    refusal_of (Write i k x) e ≡ None → s ≡ get_or (map run_of ss) i idle → r ≡ added_in (record { key = k; value = x }) s →
+    refusal_of (Write i k x) e ≡ None → s ≡ get_or (map run_of ss) i idle → r ≡ wrote (record { key = k; value = x }) s →
     (map run_of ts ≡ set (map run_of ss) i r) × (v₁ ≡ v) × (w₁ ≡ w) × (m ≡ n) → Fits (on_write i (record { key = k; value = x }) e (slot_at i e)) v₁ w₁ ts m
 fits-write e v w ss n fit v₁ w₁ ts m i k x r s free p q puts =
     let new : Entry = record { key = k; value = x } in
@@ -182,12 +180,12 @@ fits-write e v w ss n fit v₁ w₁ ts m i k x r s free p q puts =
     let l : Life = g.0 in
     let here : slot_at i e ≡ Some l = g.1 in
     let run : r ≡ going (with_write new l.txn) =
-    q ∙ ap (added_in new) (p ∙ slot-bare e v w ss n fit i ∙ ap bare here) ∙ ap (λ (b : Bool). going (cond b (with_write new l.txn) l.txn)) g.2 in
+    q ∙ ap (wrote new) (p ∙ slot-bare e v w ss n fit i ∙ ap bare here) ∙ ap (λ (b : Bool). cond b (going (with_write new l.txn)) (going l.txn)) g.2 in
     subst (λ (o : Option Life). Fits (on_write i new e o) v₁ w₁ ts m) (sym here)
     (fits_change e v w ss n fit v₁ w₁ ts m i r l (written_by new l) here run refl refl puts)
 
 pub fits_read : (e : Engine) (v : Versions) (w : Window) (ss : List Slot) (n : ℕ) → Fits e v w ss n → (v₁ : Versions) (w₁ : Window) (ts : List Slot) (m : ℕ) (i a b at : ℕ) (r : Run) (t : Txn) (l : Life) →
-    refusal_of (Read i a b) e ≡ None → slot_at i e ≡ Some l → t ≡ l.txn → at ≡ moment t n → r ≡ noted_in a b at (going t) →
+    refusal_of (Read i a b) e ≡ None → slot_at i e ≡ Some l → t ≡ l.txn → at ≡ moment t n → r ≡ read a b at (going t) →
     (map run_of ts ≡ set (map run_of ss) i r) × (v₁ ≡ v) × (w₁ ≡ w) × (m ≡ n) → Fits (on_read i a b e (slot_at i e)) v₁ w₁ ts m
 fits_read e v w ss n fit v₁ w₁ ts m i a b at r t l free here same q p puts =
     let g = read_goes e i a b free in
@@ -195,7 +193,7 @@ fits_read e v w ss n fit v₁ w₁ ts m i a b at r t l free here same q p puts =
     let few : ltb (length l.txn.reads) 64 ≡ true = subst (λ (x : Life). ltb (length x.txn.reads) 64 ≡ true) k g.2 in
     let now : at ≡ moment l.txn (count e) = q ∙ ap (λ (x : Txn). moment x n) same ∙ ap (moment l.txn) fit.number in
     let run : r ≡ going (read_by a b e l).txn =
-    p ∙ ap (λ (x : Txn). noted_in a b at (going x)) same ∙ ap (λ (q : Bool). going (cond q (with_read a b at l.txn) l.txn)) few
+    p ∙ ap (λ (x : Txn). read a b at (going x)) same ∙ ap (λ (q : Bool). cond q (going (with_read a b at l.txn)) (going l.txn)) few
     ∙ ap (λ (x : ℕ). going (with_read a b x l.txn)) now in
     subst (λ (o : Option Life). Fits (on_read i a b e o) v₁ w₁ ts m) (sym here)
     (fits_change e v w ss n fit v₁ w₁ ts m i r l (read_by a b e l) here run refl refl puts)

@@ -2,7 +2,7 @@
 use Rattle.std.specs.Prelude.{◌≡◌, ℕ, ◌-◌, ◌<◌, ◌≤◌, Bool, true, false, ◌||◌, ◌⊎◌, List, [], ◌∷◌, ◌++◌, map, length, take, drop, Some, None, Ok, Err, vec_items, Option, Result, nat_lt, slice_set}
 use Rattle.std.specs.List.{AllByRecursion}
 use Rattle.model.specs.declared.Answer.{Answer}
-use Rattle.model.specs.declared.Answer.TheVariants.{Done, Found, Committed, Shown, Refused}
+use Rattle.model.specs.declared.Answer.TheVariants.{Done, Found, Committed, Shown}
 use Rattle.model.specs.declared.Call.{Call}
 use Rattle.model.specs.declared.Call.TheVariants.{Begin, Read, Write, Commit, Abort, Sweep, Sync, Stop, Show}
 use Rattle.model.specs.declared.Refusal.{Refusal}
@@ -27,12 +27,15 @@ use Rattle.store.specs.declared.state.Tables.{Tables}
 abbrev pub Is : Engine → Tables → Type 0
 Is e s = Fits e s.versions.now s.window s.slots s.commits
 
-abbrev pub reply_of : Answer → Reply
-reply_of Done = done
-reply_of (Found v) = found (vec_items v)
-reply_of (Committed n) = committed n
-reply_of (Shown c) = shown c.commits c.versions c.busy
-reply_of (Refused y) = refused y
+abbrev pub reply_in : Answer → Reply
+reply_in Done = done
+reply_in (Found v) = found (vec_items v)
+reply_in (Committed n) = committed n
+reply_in (Shown c) = shown c.commits c.versions c.busy
+
+abbrev pub reply_of : Result Answer Refusal → Reply
+reply_of (Ok a) = reply_in a
+reply_of (Err y) = refused y
 
 -- r is why the rules refuse the call, whatever engine the tables are
 abbrev pub Refuses : Call → Tables → Option Refusal → Type 0
@@ -98,12 +101,12 @@ may_lack_room Stop e room = false
 may_lack_room Show e room = false
 
 -- the call is answered by the rules; or it is not refused by them and memory is wanted, and all is as before
-abbrev pub AnswersRecording : Call → Engine → Engine → Reply → Journal → Tables → Journal → Answer → Type 0
+abbrev pub AnswersRecording : Call → Engine → Engine → Reply → Journal → Tables → Journal → Result Answer Refusal → Type 0
 AnswersRecording c e f r i t j a =
     (Is f t × (reply_of a ≡ r) × Recorded e f i j)
     ⊎ ((refusal_of c e ≡ None) × (may_lack_room c e (room_of i) ≡ true) × Is e t × (reply_of a ≡ refused NoMemory) × (j ≡ i))
 
-abbrev pub PerformsRecording : Call → Tables → Journal → Tables → Journal → Answer → Type 0
+abbrev pub PerformsRecording : Call → Tables → Journal → Tables → Journal → Result Answer Refusal → Type 0
 PerformsRecording c s i t j a = (e : Engine) → Sound e → Is e s → refusal_of c e ≡ None → AnswersRecording c e (performed c e) (replied c e) i t j a
 
 abbrev pub serial_in : Option Life → Bool
@@ -124,11 +127,11 @@ may_lack Stop e = false
 may_lack Show e = false
 
 -- the call is answered by the rules; or memory is wanted, and all is as before
-abbrev pub Answers : Call → Engine → Engine → Reply → Tables → Answer → Type 0
+abbrev pub Answers : Call → Engine → Engine → Reply → Tables → Result Answer Refusal → Type 0
 Answers c e f r t a =
     (Is f t × (reply_of a ≡ r)) ⊎ ((may_lack c e ≡ true) × Is e t × (reply_of a ≡ refused NoMemory))
 
-abbrev pub PerformsOr : Call → Tables → Tables → Answer → Type 0
+abbrev pub PerformsOr : Call → Tables → Tables → Result Answer Refusal → Type 0
 PerformsOr c s t a = (e : Engine) → Sound e → Is e s → refusal_of c e ≡ None → Answers c e (performed c e) (replied c e) t a
 
 abbrev pub Counted : Tables → Counts → Type 0
@@ -147,7 +150,7 @@ Looks q a b s (Ok x) = (t : Txn) → q ≡ going t → (x.at ≡ moment t s.comm
 Looks q a b s (Err y) = (t : Txn) → q ≡ going t → y ≡ NoMemory
 
 -- a commit of the transaction that runs in the slot
-abbrev pub CommitsBy : ℕ → Txn → Tables → Journal → Tables → Journal → Answer → Type 0
+abbrev pub CommitsBy : ℕ → Txn → Tables → Journal → Tables → Journal → Result Answer Refusal → Type 0
 CommitsBy k t s i u j r = (e : Engine) (l : Life) → Sound e → Is e s → slot_at k e ≡ Some l → t ≡ l.txn → refusal_of (Commit k) e ≡ None →
     AnswersRecording (Commit k) e (performed (Commit k) e) (replied (Commit k) e) i u j r
 
@@ -161,10 +164,10 @@ Enters t s i u j (Err y) = (e : Engine) (k : ℕ) (l : Life) → Sound e → Is 
     (lack_in (room_of i) (Some l) ≡ true) × Is e u × (y ≡ NoMemory) × (j ≡ i)
 
 -- whatever events led to the tables, they are where they and the call lead, and the answer is the one that the rules give
-abbrev pub DoesRecording : Call → Tables → Journal → Tables → Journal → Answer → Type 0
+abbrev pub DoesRecording : Call → Tables → Journal → Tables → Journal → Result Answer Refusal → Type 0
 DoesRecording c s i t j a = (h : List Event) → Is (led h) s → AnswersRecording c (led h) (led (h ++ (Called c ∷ []))) (reply_to c (led h)) i t j a
 
-abbrev pub Does : Call → Tables → Tables → Answer → Type 0
+abbrev pub Does : Call → Tables → Tables → Result Answer Refusal → Type 0
 Does c s t a = (h : List Event) → Is (led h) s → Answers c (led h) (led (h ++ (Called c ∷ []))) (reply_to c (led h)) t a
 
 -- some events, from an empty engine on, led to the tables

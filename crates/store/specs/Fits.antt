@@ -1,5 +1,6 @@
 -- When the tables of the store are those of an engine as the rules have it.
-use Rattle.std.specs.Prelude.{◌≡◌, ℕ, ◌+◌, ◌≤◌, min, Bool, true, cond, not, List, [], ◌∷◌, map, Some, None, Option}
+use Rattle.std.specs.Prelude.{◌≡◌, ℕ, ◌+◌, ◌≤◌, min, Bool, true, cond, not, List, [], ◌∷◌, map, Some, None, Option, slice_index_or}
+use Rattle.std.specs.List.{fold}
 use Rattle.model.specs.declared.Level.{Level}
 use Rattle.model.specs.Transactions.{is_serial, is_latest}
 use Rattle.transactions.specs.declared.slot.Slot.{Slot}
@@ -10,6 +11,10 @@ use Rattle.versions.specs.History as versions
 use Rattle.conflicts.specs.declared.window.Window.{Window}
 use Rattle.conflicts.specs.Held as conflicts
 use Rattle.history.specs.Engine.{Life, Engine, txns, count, slot_at}
+
+-- what runs in the slot with this number; a slot that there isn't is idle
+abbrev pub run_at : ℕ → List Slot → Run
+run_at i ss = slice_index_or (map run_of ss) i idle
 
 -- what runs in a slot, without the answers that it was given
 abbrev pub bare : Option Life → Run
@@ -45,6 +50,10 @@ lower_run p n (going t) = cond (p t.level) (min n t.begin) n
 unfoldable pub floor_of : (Level → Bool) → ℕ → List Run → ℕ
 floor_of p n [] = n
 floor_of p n (r ∷ rs) = floor_of p (lower_run p n r) rs
+
+-- the same over slots
+abbrev pub floor_by : (Level → Bool) → ℕ → List Slot → ℕ
+floor_by p n ss = fold (λ (m : ℕ) (s : Slot). lower_run p m (run_of s)) n ss
 
 abbrev pub busy_run : ℕ → Run → ℕ
 busy_run n idle = n

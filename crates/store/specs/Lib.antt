@@ -5,4 +5,3 @@ pub mod Restored
 pub mod Reader
 pub mod Answers
 pub mod Opening
-pub mod Rooms

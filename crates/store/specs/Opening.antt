@@ -7,8 +7,8 @@ use Rattle.journal.specs.Laws.{FineCommits}
 use Rattle.journal.specs.Files.{Opened, good, bad, opened, file_of}
 use Rattle.history.specs.Engine.{Engine, fresh, txns, bytes_in, Event, Called, Stopped, led}
 use Rattle.history.specs.Pasts.{writes_of}
-use Rattle.store.specs.declared.opening.Opening.{Opening}
-use Rattle.store.specs.declared.opening.Opening.TheVariants.{Whole, Bad, NotLoading}
+use Rattle.store.specs.declared.opening.OpenError.{OpenError}
+use Rattle.store.specs.declared.opening.OpenError.TheVariants.{Bad, NotLoading}
 use Rattle.store.specs.declared.reader.Reader.{Reader}
 use Rattle.store.specs.declared.stage.Stage.TheVariants.{Loading, Unreadable}
 use Rattle.store.specs.declared.state.Tables.{Tables}
@@ -46,11 +46,11 @@ Idles r q s t a =
     ((is_loading s.stage && not (is_some r.flaw)) ≡ false → (is_ok a ≡ true) × (q ≡ r) × (t.tables.now ≡ s.tables.now))
 
 -- what comes of it: the engine of the file's commits; or none, and no commit is held
-abbrev pub OpensBy : Opened → Store → Opening → Type 0
-OpensBy (good ws used) t a = (a ≡ Whole used) × (ready_of t ≡ true) × ((e : Engine) → Settled ws e → Is e t.tables.now)
-OpensBy (bad at why) t a = (a ≡ Bad (record { at = at; why = why })) × (t.stage ≡ Unreadable) × Is fresh t.tables.now
+abbrev pub OpensBy : Opened → Store → Result ℕ OpenError → Type 0
+OpensBy (good ws used) t a = (a ≡ Ok used) × (ready_of t ≡ true) × ((e : Engine) → Settled ws e → Is e t.tables.now)
+OpensBy (bad at why) t a = (a ≡ Err (Bad (record { at = at; why = why }))) × (t.stage ≡ Unreadable) × Is fresh t.tables.now
 
-abbrev pub Opens : Reader → Store → Store → Opening → Type 0
+abbrev pub Opens : Reader → Store → Store → Result ℕ OpenError → Type 0
 Opens r s t a = (bs : List ℕ) → Reads bs r s → OpensBy (opened bs) t a
 
 -- the values of a call are numbers of 32 bits
@@ -76,5 +76,5 @@ OpensCut r s t = (h : List Event) (p : ℕ) → FineCommits (map writes_of (txns
     Reads (take p (file_of (map writes_of (txns (led h))))) r s → (ready_of t ≡ true) × Is (led (h ++ (Stopped p ∷ []))) t.tables.now
 
 -- no file was being read, and all is as it was
-abbrev pub NotOpened : Store → Store → Opening → Type 0
-NotOpened s t a = is_loading s.stage ≡ false → (a ≡ NotLoading) × (t.stage ≡ s.stage) × (t.tables.now ≡ s.tables.now)
+abbrev pub NotOpened : Store → Store → Result ℕ OpenError → Type 0
+NotOpened s t a = is_loading s.stage ≡ false → (a ≡ Err NotLoading) × (t.stage ≡ s.stage) × (t.tables.now ≡ s.tables.now)

@@ -1,7 +1,7 @@
 -- A file that is read in pieces.
 use Rattle.std.specs.Prelude.{◌≡◌, ℕ, ◌+◌, ◌-◌, ◌^◌, min, List, [], ◌++◌, drop, Some, None, Ok, Err, vec_items, Result}
 use Rattle.journal.specs.declared.types.Survey.{Survey}
-use Rattle.journal.specs.declared.types.Survey.TheVariants.{Good, Bad}
+use Rattle.journal.specs.declared.types.Flaw.{Flaw}
 use Rattle.store.specs.declared.reader.Reader.{Reader}
 
 -- nothing read yet
@@ -21,6 +21,6 @@ Taken bs r q (Err y) = (vec_items q.left ≡ vec_items r.left) × (q.at ≡ r.at
 abbrev pub Passed : ℕ → Reader → Reader → Type 0
 Passed n r q = (vec_items q.left ≡ drop n (vec_items r.left)) × (q.at ≡ place r.at n) × (q.flaw ≡ r.flaw)
 
-abbrev pub Surveyed : Survey → Reader → Reader → Type 0
-Surveyed (Good used next) r q = Passed used r q
-Surveyed (Bad at why) r q = q.flaw ≡ Some (record { at = place r.at at; why = why })
+abbrev pub Surveyed : Result Survey Flaw → Reader → Reader → Type 0
+Surveyed (Ok x) r q = Passed x.bytes r q
+Surveyed (Err f) r q = q.flaw ≡ Some (record { at = place r.at f.at; why = f.why })

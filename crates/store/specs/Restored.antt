@@ -1,5 +1,5 @@
 -- Tables that are filled from the records of a file.
-use Rattle.std.specs.Prelude.{◌≡◌, ℕ, ◌+◌, ◌^◌, ◌<◌, ◌≤◌, true, List, [], ◌∷◌, ◌++◌, map, length, replicate}
+use Rattle.std.specs.Prelude.{◌≡◌, ℕ, ◌+◌, ◌^◌, ◌<◌, ◌≤◌, true, List, [], ◌∷◌, ◌++◌, map, length, replicate, Ok, Err, Result}
 use Rattle.model.specs.declared.Entry.{Entry}
 use Rattle.model.specs.declared.Level.TheVariants.{Latest}
 use Rattle.model.specs.Transactions.{Txn}
@@ -11,7 +11,7 @@ use Rattle.versions.specs.History as versions
 use Rattle.conflicts.specs.declared.window.Window.{Window}
 use Rattle.conflicts.specs.Held as conflicts
 use Rattle.journal.specs.declared.types.Survey.{Survey}
-use Rattle.journal.specs.declared.types.Survey.TheVariants.{Good, Bad}
+use Rattle.journal.specs.declared.types.Flaw.{Flaw}
 use Rattle.journal.specs.Records.{FineCommit}
 use Rattle.journal.specs.Laws.{FineCommits}
 use Rattle.journal.specs.Files.{Opened, good, bad, replayed, surveyed}
@@ -56,13 +56,13 @@ RestoredBy ws (good more used) t = Restored (ws ++ more) t
 RestoredBy ws (bad at why) t = (more : List (List Entry)) × Restored (ws ++ more) t
 
 -- the records in the bytes come behind the commits so far
-abbrev pub Replays : List ℕ → Tables → Tables → Survey → Type 0
+abbrev pub Replays : List ℕ → Tables → Tables → Result Survey Flaw → Type 0
 Replays bs s t r = (ws : List (List Entry)) → Restored ws s →
     (r ≡ surveyed (length ws) (replayed (length ws) bs)) × RestoredBy ws (replayed (length ws) bs) t
 
-abbrev pub EndsIn : List ℕ → Survey → Type 0
-EndsIn bs (Good used next) = used ≤ length bs
-EndsIn bs (Bad at why) = at ≤ length bs
+abbrev pub EndsIn : List ℕ → Result Survey Flaw → Type 0
+EndsIn bs (Ok x) = x.bytes ≤ length bs
+EndsIn bs (Err f) = f.at ≤ length bs
 
 -- an engine with these commits, swept, nobody under way
 abbrev pub Settled : List (List Entry) → Engine → Type 0

@@ -1,26 +1,25 @@
 // What each call does.
-ghost use Rattle.std.specs.Prelude.{◌≡◌, ◌<◌, true, not, map, IfOk, ◌==◌, nat_le, slice_index_or};
-ghost use Rattle.transactions.specs.Slots.{idle, run_of, noted_in, added_in, begin_refused, read_refused, write_refused, end_refused};
+ghost use Rattle.std.specs.Prelude.{◌≡◌, true, count_by, IfOk, ◌==◌};
+ghost use Rattle.transactions.specs.declared.slot.Slot.{Slot};
+ghost use Rattle.transactions.specs.Slots.{idle, run_of, is_going, read, wrote, begin_refused, read_refused, write_refused, end_refused};
 ghost use Rattle.transactions.specs.Transactions.{model_of};
 ghost use Rattle.model.specs.declared.Call.TheVariants.{Begin, Read, Write, Commit, Abort, Sweep, Stop};
-ghost use Rattle.model.specs.declared.Refusal.TheVariants.{NoRoom, LastCommit};
+ghost use Rattle.model.specs.Refusals.{refusal_in};
 ghost use Rattle.versions.specs.Store.{spaces};
 ghost use Rattle.journal.specs.declared.gather.Journal.{Journal};
-ghost use Rattle.history.specs.Engine.{fresh, out_of_bounds, when, first_of};
-ghost use Rattle.store.specs.Fits.{counts, lower_run, floor_of, busy_run, busy_of};
+ghost use Rattle.history.specs.Engine.{fresh, out_of_bounds};
+ghost use Rattle.store.specs.Fits.{counts, lower_run, floor_by, run_at};
 ghost use Rattle.store.specs.Calls.{Is, Refuses, SlotRefuses, Judges, Puts, Keeps, Performs, PerformsOr, PerformsRecording, Counted, Finds, StandsAt, Looks, CommitsBy, Enters};
 
 use crate::state::Tables;
 use conflicts::Window;
 use journal::{Journal, LARGEST_RECORD};
-use model::{Answer, Call, Counts, Entry, Level, Refusal};
+use model::{Answer, Call, Counts, Entry, KEYS, Level, Refusal, Reply};
 use std::alloc::{AllocError, Global};
 use transactions::{Slot, Transaction};
 use versions::{ROOM, Versions};
 
 const SLOTS: u32 = 16;
-
-const KEYS: u32 = 4096;
 
 // Whether a number of the call is out of bounds.
 pub fn is_out_of_bounds(call: Call) -> bool
@@ -29,13 +28,8 @@ pub fn is_out_of_bounds(call: Call) -> bool
     match call {
         Call::Begin { slot, level } => slot >= SLOTS || level.is_none(),
         Call::Read { slot, from, to } => slot >= SLOTS || to <= from || to > KEYS,
-        Call::Write {
-            slot,
-            key,
-            value: _,
-        } => slot >= SLOTS || key >= KEYS,
-        Call::Commit { slot } => slot >= SLOTS,
-        Call::Abort { slot } => slot >= SLOTS,
+        Call::Write { slot, key, .. } => slot >= SLOTS || key >= KEYS,
+        Call::Commit { slot } | Call::Abort { slot } => slot >= SLOTS,
         Call::Sweep | Call::Sync | Call::Stop | Call::Show => false,
     }
 }
@@ -44,13 +38,13 @@ pub fn is_out_of_bounds(call: Call) -> bool
 fn lower(slot: &Slot, floor: u32, snapshots: bool) -> u32
     ensures { result ≡ lower_run (counts snapshots) floor (run_of slot.now) }
 {
-    match slot {
-        Slot::Idle => floor,
-        Slot::Active(t) => match t.level {
-            Level::Latest => floor,
-            Level::Snapshot => if snapshots { floor.min(t.begin) } else { floor },
-            Level::Serial => floor.min(t.begin),
-        },
+    let Some(t) = &slot.running else {
+        return floor;
+    };
+    match t.level {
+        Level::Latest => floor,
+        Level::Snapshot => if snapshots { floor.min(t.begin) } else { floor },
+        Level::Serial => floor.min(t.begin),
     }
 }
 
@@ -61,76 +55,38 @@ struct Seen {
     entries: Vec<Entry>,
 }
 
-fn begin_refusal(slot: Slot) -> Option<Refusal>
-    ensures { result ≡ begin_refused (run_of slot) }
+fn check_begin(slot: Slot) -> Result<(), Refusal>
+    ensures { refusal_in result ≡ begin_refused (run_of slot) }
 {
-    match slot {
-        Slot::Idle => None,
-        Slot::Active(_) => Some(Refusal::SlotState),
+    if slot.is_busy() {
+        return Err(Refusal::SlotState);
     }
+    Ok(())
 }
 
-fn abort_refusal(slot: Slot) -> Option<Refusal>
-    ensures { result ≡ end_refused (run_of slot) }
+fn check_abort(slot: Slot) -> Result<(), Refusal>
+    ensures { refusal_in result ≡ end_refused (run_of slot) }
 {
-    match slot {
-        Slot::Idle => Some(Refusal::SlotState),
-        Slot::Active(_) => None,
-    }
+    slot.transaction()?;
+    Ok(())
 }
 
-fn read_refusal(slot: Slot) -> Option<Refusal>
-    ensures { result ≡ read_refused (run_of slot) }
+fn check_read(slot: Slot) -> Result<(), Refusal>
+    ensures { refusal_in result ≡ read_refused (run_of slot) }
 {
-    match slot {
-        Slot::Idle => Some(Refusal::SlotState),
-        Slot::Active(t) => if t.reads_full() {
-            Some(Refusal::TooMany)
-        } else {
-            None
-        },
+    if slot.transaction()?.reads_full() {
+        return Err(Refusal::TooMany);
     }
+    Ok(())
 }
 
-fn write_refusal(slot: Slot) -> Option<Refusal>
-    ensures { result ≡ write_refused (run_of slot) }
+fn check_write(slot: Slot) -> Result<(), Refusal>
+    ensures { refusal_in result ≡ write_refused (run_of slot) }
 {
-    match slot {
-        Slot::Idle => Some(Refusal::SlotState),
-        Slot::Active(t) => if t.writes_full() {
-            Some(Refusal::TooMany)
-        } else {
-            None
-        },
+    if slot.transaction()?.writes_full() {
+        return Err(Refusal::TooMany);
     }
-}
-
-// The first of the refusals of a commit.
-fn first_of(judged: Option<Refusal>, room: bool, commits: u32) -> Option<Refusal>
-    ensures { result ≡ first_of judged (first_of (when (not room) NoRoom) (when (nat_le 4294967295 commits) LastCommit)) }
-{
-    if judged.is_some() {
-        return judged;
-    }
-    if !room {
-        return Some(Refusal::NoRoom);
-    }
-    if commits == u32::MAX {
-        Some(Refusal::LastCommit)
-    } else {
-        None
-    }
-}
-
-// One more where the slot is busy.
-fn busier(slot: &Slot, n: u32) -> u32
-    requires { n < 16 }
-    ensures { result ≡ busy_run n (run_of slot.now) }
-{
-    match slot {
-        Slot::Idle => n,
-        Slot::Active(_) => n + 1,
-    }
+    Ok(())
 }
 
 impl<'s, 'a> Tables<'s, 'a> {
@@ -144,105 +100,96 @@ impl<'s, 'a> Tables<'s, 'a> {
             heap,
             versions,
             window: Window::new(heap),
-            slots: [Slot::Idle; 16],
+            slots: [Slot::idle(); 16],
             commits: 0,
         }
     }
 }
 
 impl Tables<'_, '_> {
-    // Empties the tables. Says whether there is room for all versions that an engine may have.
+    // Empties the tables. Says whether there is room for all versions that an engine may have, which the lent words decide: a
+    // fact and no failure.
     pub fn reset(&mut self) -> bool
         ensures room { result ≡ (spaces self.old.versions.now == 32768) }
         ensures fresh { result ≡ true → Is fresh self.new }
     {
         self.versions.clear();
         self.window = Window::new(self.heap);
-        self.slots = [Slot::Idle; 16];
+        self.slots = [Slot::idle(); 16];
         self.commits = 0;
         self.versions.room() == ROOM
     }
 
     // What runs in the slot; a slot that there isn't is idle.
     pub fn slot(&self, slot: u32) -> Slot
-        ensures { run_of result ≡ slice_index_or (map run_of self.now.slots) slot idle }
+        ensures { run_of result ≡ run_at slot self.now.slots }
     {
         if slot >= SLOTS {
-            return Slot::Idle;
+            return Slot::idle();
         }
         self.slots[slot as usize]
     }
 
     // The lowest begin of those under way at Serial, or Snapshot where these count; the number of commits if there is none.
+    // `snapshots` is handed on to the definition `counts`; a closure would need one more clause to name the levels it takes.
     fn floor(&self, snapshots: bool) -> u32
-        ensures { result ≡ floor_of (counts snapshots) self.now.commits (map run_of self.now.slots) }
+        ensures { result ≡ floor_by (counts snapshots) self.now.commits self.now.slots }
     {
-        let mut floor = self.commits;
-        for slot in &self.slots {
-            floor = lower(slot, floor, snapshots);
-        }
-        floor
+        self.slots
+            .iter()
+            .fold(self.commits, |floor, slot| lower(slot, floor, snapshots))
     }
 
     fn busy(&self) -> u32
-        ensures { result ≡ busy_of 0 (map run_of self.now.slots) }
+        ensures { result ≡ count_by (λ (s : Slot). is_going (run_of s)) self.now.slots }
     {
-        let mut n = 0u32;
-        for slot in &self.slots {
-            n = busier(slot, n);
-        }
-        n
+        self.slots.iter().filter(|slot| slot.is_busy()).count() as u32
     }
 
-    // Why the rules refuse the call, if they do.
-    pub fn refusal(&self, call: Call) -> Option<Refusal>
-        ensures { Refuses call self.now result }
+    // Whether the rules allow the call; why not, where they refuse it.
+    pub fn check(&self, call: Call) -> Result<(), Refusal>
+        ensures { Refuses call self.now (refusal_in result) }
     {
         if is_out_of_bounds(call) {
-            return Some(Refusal::OutOfBounds);
+            return Err(Refusal::OutOfBounds);
         }
-        self.slot_refusal(call)
+        self.check_slot(call)
     }
 
     // The same where all numbers are within their bounds.
-    fn slot_refusal(&self, call: Call) -> Option<Refusal>
-        ensures { SlotRefuses call self.now result }
+    fn check_slot(&self, call: Call) -> Result<(), Refusal>
+        ensures { SlotRefuses call self.now (refusal_in result) }
     {
         match call {
-            Call::Begin { slot, level: _ } => begin_refusal(self.slot(slot)),
-            Call::Read {
-                slot,
-                from: _,
-                to: _,
-            } => read_refusal(self.slot(slot)),
-            Call::Write {
-                slot,
-                key: _,
-                value: _,
-            } => write_refusal(self.slot(slot)),
-            Call::Commit { slot } => self.commit_refusal(slot),
-            Call::Abort { slot } => abort_refusal(self.slot(slot)),
-            Call::Sweep | Call::Sync | Call::Stop | Call::Show => None,
+            Call::Begin { slot, .. } => check_begin(self.slot(slot)),
+            Call::Read { slot, .. } => check_read(self.slot(slot)),
+            Call::Write { slot, .. } => check_write(self.slot(slot)),
+            Call::Commit { slot } => self.check_commit(slot),
+            Call::Abort { slot } => check_abort(self.slot(slot)),
+            Call::Sweep | Call::Sync | Call::Stop | Call::Show => Ok(()),
         }
     }
 
-    fn commit_refusal(&self, slot: u32) -> Option<Refusal>
-        ensures { SlotRefuses (Commit slot) self.now result }
+    fn check_commit(&self, slot: u32) -> Result<(), Refusal>
+        ensures { SlotRefuses (Commit slot) self.now (refusal_in result) }
     {
-        match self.slot(slot) {
-            Slot::Idle => Some(Refusal::SlotState),
-            Slot::Active(t) => self.verdict(&t),
-        }
+        let t = self.slot(slot).transaction()?;
+        self.verdict(&t)
     }
 
-    // Why the transaction may not commit now, if it may not.
-    fn verdict(&self, t: &Transaction) -> Option<Refusal>
-        ensures { Judges (model_of t.now) self.now result }
+    // Whether the transaction may commit now; why not, where it may not.
+    fn verdict(&self, t: &Transaction) -> Result<(), Refusal>
+        ensures { Judges (model_of t.now) self.now (refusal_in result) }
     {
         let conflict = self.versions.conflicts(t.begin, t.own_writes());
-        let judged = self.window.verdict(t, conflict);
-        let room = self.versions.room_for(t.own_writes());
-        first_of(judged, room, self.commits)
+        self.window.verdict(t, conflict)?;
+        if !self.versions.room_for(t.own_writes()) {
+            return Err(Refusal::NoRoom);
+        }
+        if self.commits == u32::MAX {
+            return Err(Refusal::LastCommit);
+        }
+        Ok(())
     }
 
     // Puts this into the slot.
@@ -258,17 +205,15 @@ impl Tables<'_, '_> {
     fn end(&mut self, slot: u32)
         ensures { Puts slot idle self.old self.new }
     {
-        if slot < SLOTS {
-            self.slots[slot as usize] = self.slots[slot as usize].freed();
-        }
+        self.put(slot, Slot::idle());
     }
 
     fn begin(&mut self, slot: u32, level: Option<Level>)
         ensures { Performs (Begin slot level) self.old self.new }
     {
         if let Some(level) = level {
-            let t = Transaction::started(level, self.commits);
-            self.put(slot, Slot::Active(t));
+            let running = Some(Transaction::started(level, self.commits));
+            self.put(slot, Slot { running });
         }
     }
 
@@ -280,10 +225,10 @@ impl Tables<'_, '_> {
 
     // Adds the write.
     fn add(&mut self, slot: u32, entry: Entry)
-        ensures { Puts slot (added_in entry (slice_index_or (map run_of self.old.slots) slot idle)) self.old self.new }
+        ensures { Puts slot (wrote entry (run_at slot self.old.slots)) self.old self.new }
     {
-        if slot < SLOTS {
-            self.slots[slot as usize] = self.slots[slot as usize].added(entry);
+        if let Ok(added) = self.slot(slot).written(entry) {
+            self.put(slot, added);
         }
     }
 
@@ -316,7 +261,7 @@ impl Tables<'_, '_> {
         let commits = self.commits;
         self.versions.sweep(commits);
         self.window.forget(commits);
-        self.slots = [Slot::Idle; 16];
+        self.slots = [Slot::idle(); 16];
     }
 
     fn counts(&self) -> Counts
@@ -356,72 +301,48 @@ impl Tables<'_, '_> {
 
     // What a read of the transaction in the slot finds.
     fn look(&self, slot: u32, from: u32, to: u32) -> Result<Seen, Refusal>
-        ensures { Looks (slice_index_or (map run_of self.now.slots) slot idle) from to self.now result }
+        ensures { Looks (run_at slot self.now.slots) from to self.now result }
     {
-        match self.slots.get(slot as usize) {
-            Some(place) => self.look_in(place, from, to),
-            None => Err(Refusal::SlotState),
-        }
+        let Some(Slot { running: Some(t) }) = self.slots.get(slot as usize) else {
+            return Err(Refusal::SlotState);
+        };
+        let at = t.moment(self.commits);
+        let entries = self.found(t, at, from, to)?;
+        Ok(Seen { at, entries })
     }
 
-    // The same by what runs in the slot.
-    fn look_in(&self, place: &Slot, from: u32, to: u32) -> Result<Seen, Refusal>
-        ensures { Looks (run_of place.now) from to self.now result }
-    {
-        match place {
-            Slot::Idle => Err(Refusal::SlotState),
-            Slot::Active(t) => {
-                let at = t.moment(self.commits);
-                match self.found(t, at, from, to) {
-                    Err(_) => Err(Refusal::NoMemory),
-                    Ok(entries) => Ok(Seen { at, entries }),
-                }
-            }
-        }
-    }
-
-    fn read(&mut self, slot: u32, from: u32, to: u32) -> Answer
+    fn read(&mut self, slot: u32, from: u32, to: u32) -> Reply
         ensures { (j : Journal) → PerformsRecording (Read slot from to) self.old j self.new j result }
     {
-        match self.look(slot, from, to) {
-            Err(refusal) => Answer::Refused(refusal),
-            Ok(seen) => {
-                self.note(slot, from, to, seen.at);
-                Answer::Found(seen.entries)
-            }
-        }
+        let seen = self.look(slot, from, to)?;
+        self.note(slot, from, to, seen.at);
+        Ok(Answer::Found(seen.entries))
     }
 
     // Notes the read.
     fn note(&mut self, slot: u32, from: u32, to: u32, at: u32)
-        ensures { Puts slot (noted_in from to at (slice_index_or (map run_of self.old.slots) slot idle)) self.old self.new }
+        ensures { Puts slot (read from to at (run_at slot self.old.slots)) self.old self.new }
     {
-        if slot < SLOTS {
-            self.slots[slot as usize] = self.slots[slot as usize].noted(from, to, at);
+        if let Ok(noted) = self.slot(slot).read(from, to, at) {
+            self.put(slot, noted);
         }
     }
 
-    fn commit(&mut self, slot: u32, journal: &mut Journal) -> Answer
+    fn commit(&mut self, slot: u32, journal: &mut Journal) -> Reply
         ensures { PerformsRecording (Commit slot) self.old journal.old self.new journal.new result }
     {
-        match self.slot(slot) {
-            Slot::Idle => Answer::Refused(Refusal::SlotState),
-            Slot::Active(t) => self.commit_by(slot, &t, journal),
-        }
+        let t = self.slot(slot).transaction()?;
+        self.commit_by(slot, &t, journal)
     }
 
-    fn commit_by(&mut self, slot: u32, t: &Transaction, journal: &mut Journal) -> Answer
+    fn commit_by(&mut self, slot: u32, t: &Transaction, journal: &mut Journal) -> Reply
         ensures { CommitsBy slot (model_of t.now) self.old journal.old self.new journal.new result }
     {
         let number = self.commits;
-        match self.enter(t, journal) {
-            Err(refusal) => Answer::Refused(refusal),
-            Ok(()) => {
-                self.end(slot);
-                self.forget();
-                Answer::Committed(number)
-            }
-        }
+        self.enter(t, journal)?;
+        self.end(slot);
+        self.forget();
+        Ok(Answer::Committed(number))
     }
 
     // Enters the transaction among the commits, and its record in the journal.
@@ -438,21 +359,18 @@ impl Tables<'_, '_> {
         if !journal.has_room() {
             return Err(Refusal::NoMemory);
         }
-        if let Err(refusal) = self.window.take_in(t, number) {
-            return Err(refusal);
-        }
-        if !journal.append(number, t.own_writes()) {
+        self.window.take_in(t, number)?;
+        let Ok(()) = journal.append(number, t.own_writes()) else {
             return Err(Refusal::NoMemory);
-        }
-        if let Err(refusal) = self.versions.commit(number, t.own_writes()) {
-            return Err(refusal);
-        }
+        };
+        self.versions.commit(number, t.own_writes())?;
         self.commits = number + 1;
         Ok(())
     }
 
-    // Does a call that is not refused, where nobody wants the records.
-    pub fn perform(&mut self, call: Call) -> Answer
+    // Does a call that is not refused, where nobody wants the records: the same over a journal for one record, which is not
+    // read. A type for where records go would stand on six functions for these three lines.
+    pub fn perform(&mut self, call: Call) -> Reply
         ensures { PerformsOr call self.old self.new result }
     {
         let mut record = [0; LARGEST_RECORD];
@@ -461,34 +379,34 @@ impl Tables<'_, '_> {
     }
 
     // Does a call that is not refused. The record of a commit goes to the journal.
-    pub fn perform_recording(&mut self, call: Call, journal: &mut Journal) -> Answer
+    pub fn perform_recording(&mut self, call: Call, journal: &mut Journal) -> Reply
         ensures { PerformsRecording call self.old journal.old self.new journal.new result }
     {
         match call {
             Call::Begin { slot, level } => {
                 self.begin(slot, level);
-                Answer::Done
+                Ok(Answer::Done)
             }
             Call::Read { slot, from, to } => self.read(slot, from, to),
             Call::Write { slot, key, value } => {
                 self.write(slot, key, value);
-                Answer::Done
+                Ok(Answer::Done)
             }
             Call::Commit { slot } => self.commit(slot, journal),
             Call::Abort { slot } => {
                 self.abort(slot);
-                Answer::Done
+                Ok(Answer::Done)
             }
             Call::Sweep => {
                 self.sweep();
-                Answer::Done
+                Ok(Answer::Done)
             }
-            Call::Sync => Answer::Done,
+            Call::Sync => Ok(Answer::Done),
             Call::Stop => {
                 self.restart();
-                Answer::Done
+                Ok(Answer::Done)
             }
-            Call::Show => Answer::Shown(self.counts()),
+            Call::Show => Ok(Answer::Shown(self.counts())),
         }
     }
 }

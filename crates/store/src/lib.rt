@@ -5,14 +5,14 @@ mod calls;
 mod opening;
 mod reader;
 mod restore;
-mod room;
 mod stage;
 mod state;
 mod store;
 
-pub use opening::Opening;
-pub use reader::{Flaw, Reader};
-pub use room::{Room, Set};
+pub use journal::Flaw;
+pub use opening::OpenError;
+pub use reader::Reader;
 pub use stage::Stage;
 pub use state::Tables;
 pub use store::Store;
+pub use versions::{Room, Set};

@@ -3,15 +3,8 @@ ghost use Rattle.std.specs.Prelude.{◌≡◌, ◌≤◌, length};
 ghost use Rattle.store.specs.Reader.{Blank, Passed, Surveyed, Taken};
 ghost use Rattle.store.specs.Restored.{EndsIn};
 
-use journal::{Fault, Survey};
+use journal::{Flaw, Survey};
 use std::alloc::{AllocError, Global};
-
-// The record that begins at this byte is bad.
-#[derive(Clone, Copy)]
-pub struct Flaw {
-    pub at: u64,
-    pub why: Fault,
-}
 
 // The bytes behind the last whole record, where they begin, and the first flaw.
 #[derive(Drop)]
@@ -65,22 +58,20 @@ impl Reader {
         requires { n ≤ length self.old.left.items }
         ensures { Passed n self.old self.new }
     {
-        let rest = self.left.len() - n;
-        self.left.copy_within(n.., 0);
-        self.left.truncate(rest);
+        self.left.drain(..n);
         self.at = self.at.saturating_add(n as u64);
     }
 
     // Notes what was found in the bytes.
-    pub(crate) fn note(&mut self, found: Survey)
+    pub(crate) fn note(&mut self, found: Result<Survey, Flaw>)
         requires { EndsIn self.old.left.items found }
         ensures { Surveyed found self.old self.new }
     {
         match found {
-            Survey::Good { bytes, next: _ } => self.pass(bytes),
-            Survey::Bad { at, why } => {
+            Ok(survey) => self.pass(survey.bytes),
+            Err(Flaw { at, why }) => {
                 self.flaw = Some(Flaw {
-                    at: self.at.saturating_add(at as u64),
+                    at: self.at.saturating_add(at),
                     why,
                 });
             }

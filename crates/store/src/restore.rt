@@ -1,9 +1,27 @@
 // Fills the tables from the records of a file.
+ghost use Rattle.std.specs.Prelude.{◌≡◌, ◌≤◌, length, drop};
+ghost use Rattle.journal.specs.Parsing.{parsed, outlined, laid, RecordIn};
+ghost use Rattle.journal.specs.Files.{flawed};
 ghost use Rattle.store.specs.Restored.{MakesRoom, Restores, Replays, EndsIn, Settles};
 
 use crate::state::Tables;
-use journal::{Fault, Parsed, Survey, decode};
+use journal::{Fault, Flaw, Record, Survey, decode};
 use model::Entry;
+
+// The record at this byte, as `decode` has it.
+fn record_at(
+    bytes: &[u8],
+    at: usize,
+    number: u32,
+    writes: &mut [Entry; 64],
+) -> Result<Option<Record>, Flaw>
+    requires { at ≤ length bytes.now }
+    ensures answer { result ≡ flawed at (outlined (parsed number (drop at bytes.now))) }
+    ensures writes { writes.new ≡ laid (parsed number (drop at bytes.now)) writes.old }
+    ensures whole { RecordIn number (drop at bytes.now) (parsed number (drop at bytes.now)) }
+{
+    decode(&bytes[at..], number, writes).map_err(|why| Flaw { at: at as u64, why })
+}
 
 impl Tables<'_, '_> {
     // Sweeps where there is no room for the versions of the writes.
@@ -25,10 +43,9 @@ impl Tables<'_, '_> {
         if number == u32::MAX {
             return;
         }
-        if let Err(_) = self.versions.commit(number, writes) {
-            return;
+        if let Ok(()) = self.versions.commit(number, writes) {
+            self.commits = number + 1;
         }
-        self.commits = number + 1;
     }
 
     // Leaves the last version of each key, as an engine begins.
@@ -38,35 +55,32 @@ impl Tables<'_, '_> {
         let floor = self.commits;
         self.versions.sweep(floor);
     }
-}
 
-// All records in bytes, behind the commits that the tables have.
-pub(crate) fn replay(tables: &mut Tables, bytes: &[u8]) -> Survey
-    ensures commits { Replays bytes.now tables.old tables.new result }
-    ensures inside { EndsIn bytes.now result }
-{
-    let mut writes = [Entry { key: 0, value: 0 }; 64];
-    let mut at = 0;
-    loop {
-        let number = tables.commits;
-        let answer = decode(&bytes[at..], number, &mut writes);
-        let Parsed::Whole { bytes: size, count } = answer else {
-            if let Parsed::Bad(why) = answer {
-                return Survey::Bad { at, why };
-            }
-            break;
-        };
-        if number == u32::MAX {
-            return Survey::Bad {
-                at,
-                why: Fault::WrongNumber,
+    // All records in bytes, behind the commits that the tables have.
+    pub(crate) fn replay(&mut self, bytes: &[u8]) -> Result<Survey, Flaw>
+        ensures commits { Replays bytes.now self.old self.new result }
+        ensures inside { EndsIn bytes.now result }
+    {
+        let mut writes = [Entry::default(); 64];
+        // records differ in size, so the place is counted
+        let mut at = 0;
+        loop {
+            let next = self.commits;
+            let Some(found) = record_at(bytes, at, next, &mut writes)? else {
+                break;
             };
+            if next == u32::MAX {
+                return Err(Flaw {
+                    at: at as u64,
+                    why: Fault::WrongNumber,
+                });
+            }
+            self.restore(&writes[..found.count]);
+            at += found.bytes;
         }
-        tables.restore(&writes[0..count]);
-        at += size;
-    }
-    Survey::Good {
-        bytes: at,
-        next: tables.commits,
+        Ok(Survey {
+            bytes: at,
+            next: self.commits,
+        })
     }
 }

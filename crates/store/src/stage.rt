@@ -17,20 +17,15 @@ impl Stage {
     pub(crate) fn is_ready(self) -> bool
         ensures { result ≡ is_ready self }
     {
-        match self {
-            Stage::Ready => true,
-            Stage::Loading | Stage::Unreadable => false,
-        }
+        self == Stage::Ready
     }
 
     pub(crate) fn is_loading(self) -> bool
         ensures { result ≡ is_loading self }
     {
-        match self {
-            Stage::Loading => true,
-            Stage::Ready | Stage::Unreadable => false,
-        }
+        self == Stage::Loading
     }
+
     // This stage, where there is room for all versions that an engine may have; else there is no engine.
     pub(crate) fn if_room(self, room: bool) -> Stage
         ensures { result ≡ (if room then self else Unreadable) }

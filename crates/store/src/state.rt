@@ -6,6 +6,7 @@ use std::alloc::Global;
 use transactions::Slot;
 use versions::Versions;
 
+// Within a commit they are no engine's, so each call says what they stand for, and `Store` keeps it.
 #[derive(Drop)]
 pub struct Tables<'s, 'a> {
     pub heap: Global,

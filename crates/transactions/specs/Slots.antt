@@ -1,21 +1,24 @@
 -- Slots, by what runs in each.
-use Rattle.std.specs.Prelude.{ℕ, Bool, true, false, cond, length, Some, None, Option, nat_lt}
+use Rattle.std.specs.Prelude.{◌≡◌, ℕ, Bool, true, false, cond, length, Some, None, Ok, Err, Option, Result, nat_lt}
 use Rattle.model.specs.declared.Entry.{Entry}
 use Rattle.model.specs.declared.Level.{Level}
 use Rattle.model.specs.declared.Refusal.{Refusal}
 use Rattle.model.specs.declared.Refusal.TheVariants.{SlotState, TooMany}
 use Rattle.model.specs.Transactions.{Txn, began, with_read, with_write}
 use Rattle.transactions.specs.declared.slot.Slot.{Slot}
-use Rattle.transactions.specs.declared.slot.Slot.TheVariants.{Idle, Active}
-use Rattle.transactions.specs.Transactions.{model_of, noted, added}
+use Rattle.transactions.specs.declared.transaction.Transaction.{Transaction}
+use Rattle.transactions.specs.Transactions.{model_of}
 
 pub data Run : Type 0 where
   idle : Run
   going : Txn → Run
 
+abbrev pub run_in : Option Transaction → Run
+run_in None = idle
+run_in (Some t) = going (model_of t)
+
 abbrev pub run_of : Slot → Run
-run_of Idle = idle
-run_of (Active t) = going (model_of t)
+run_of s = run_in s.running
 
 abbrev pub is_going : Run → Bool
 is_going idle = false
@@ -50,11 +53,13 @@ abbrev pub end_refused : Run → Option Refusal
 end_refused idle = Some SlotState
 end_refused (going t) = None
 
--- what runs in a slot with a read noted, or a write added, there
-abbrev pub noted_in : ℕ → ℕ → ℕ → Run → Run
-noted_in a b at idle = idle
-noted_in a b at (going t) = going (noted a b at t)
+-- the outcome of what turns a slot's run by f, and may be refused by g: the slot after it, or why it is refused, and then
+-- f changes nothing
+abbrev pub Turns : (Run → Run) → (Run → Option Refusal) → Slot → Result Slot Refusal → Type 0
+Turns f g s (Ok t) = (run_of t ≡ f (run_of s)) × (g (run_of s) ≡ None)
+Turns f g s (Err y) = (f (run_of s) ≡ run_of s) × (g (run_of s) ≡ Some y)
 
-abbrev pub added_in : Entry → Run → Run
-added_in e idle = idle
-added_in e (going t) = going (added e t)
+-- what runs in the slot, or that nothing does
+abbrev pub Runs : Slot → Result Transaction Refusal → Type 0
+Runs s (Ok t) = s.running ≡ Some t
+Runs s (Err y) = (s.running ≡ None) × (y ≡ SlotState)

@@ -1,5 +1,5 @@
 -- What a transaction's arrays stand for.
-use Rattle.std.specs.Prelude.{◌≡◌, ℕ, ◌<◌, ◌≤◌, cond, List, map, length, take, Ok, Err, Result, nat_lt}
+use Rattle.std.specs.Prelude.{◌≡◌, ℕ, ◌<◌, ◌≤◌, List, map, length, take, Ok, Err, Result}
 use Rattle.model.specs.declared.Entry.{Entry}
 use Rattle.model.specs.Transactions.{Txn, with_read, with_write}
 use Rattle.transactions.specs.declared.noted.NotedRead.{NotedRead}
@@ -25,10 +25,3 @@ ReadNoted t a b at (Err u) = (64 ≤ length (model_of t).reads) × (u ≡ t)
 abbrev pub WriteAdded : Transaction → Entry → Result Transaction Transaction → Type 0
 WriteAdded t e (Ok u) = (length (model_of t).writes < 64) × (model_of u ≡ with_write e (model_of t))
 WriteAdded t e (Err u) = (64 ≤ length (model_of t).writes) × (u ≡ t)
-
--- with one read or one write more; as it was where it has 64
-abbrev pub noted : ℕ → ℕ → ℕ → Txn → Txn
-noted a b at t = cond (nat_lt (length t.reads) 64) (with_read a b at t) t
-
-abbrev pub added : Entry → Txn → Txn
-added e t = cond (nat_lt (length t.writes) 64) (with_write e t) t

@@ -6,7 +6,8 @@ mod noted;
 mod slot;
 mod transaction;
 
-pub use looks::{looks_at, reads_some, writes_key};
+pub use looks::{looks_at, reads_some};
+pub use model::writes_key;
 pub use noted::NotedRead;
 pub use slot::Slot;
 pub use transaction::Transaction;

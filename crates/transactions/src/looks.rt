@@ -1,21 +1,9 @@
 ghost use Rattle.std.specs.Prelude.{◌≡◌, map};
-ghost use Rattle.model.specs.Transactions.{names, looks_at, looked, reads_some};
-ghost use Rattle.transactions.specs.Noted.{read_of, Leaves};
+ghost use Rattle.model.specs.Transactions.{looks_at, looked, reads_some};
+ghost use Rattle.transactions.specs.Noted.{read_of, last_of};
 
 use super::noted::*;
 use model::*;
-
-// Whether one of the writes is of the key.
-pub fn writes_key(writes: &[Entry], key: u32) -> bool
-    ensures { result ≡ names key writes.now }
-{
-    for w in writes {
-        if w.key == key {
-            return true;
-        }
-    }
-    false
-}
 
 // Whether the read, of a transaction with these writes, looks at the key.
 pub fn looks_at(read: NotedRead, writes: &[Entry], key: u32) -> bool
@@ -29,35 +17,19 @@ pub fn looks_at(read: NotedRead, writes: &[Entry], key: u32) -> bool
 pub fn looks_some(reads: &[NotedRead], own: &[Entry], key: u32) -> bool
     ensures { result ≡ looked key (map (read_of own.now) reads.now) }
 {
-    for r in reads {
-        if looks_at(*r, own, key) {
-            return true;
-        }
-    }
-    false
+    reads.iter().any(|read| looks_at(*read, own, key))
 }
 
 // Whether one of the reads, of a transaction whose writes are `own`, looks at a key of the writes.
 pub fn reads_some(reads: &[NotedRead], own: &[Entry], writes: &[Entry]) -> bool
     ensures { result ≡ reads_some (map (read_of own.now) reads.now) writes.now }
 {
-    for w in writes {
-        if looks_some(reads, own, w.key) {
-            return true;
-        }
-    }
-    false
+    writes.iter().any(|w| looks_some(reads, own, w.key))
 }
 
 // The value of the last write of the key, if there is one.
 pub fn last_write(writes: &[Entry], key: u32) -> Option<u32>
-    ensures { Leaves key writes.now result }
+    ensures { result ≡ last_of key writes.now }
 {
-    let mut last = None;
-    for w in writes {
-        if w.key == key {
-            last = Some(w.value);
-        }
-    }
-    last
+    writes.iter().rev().find(|w| w.key == key).map(|w| w.value)
 }

@@ -1,102 +1,75 @@
-ghost use Rattle.std.specs.Prelude.{◌≡◌};
-ghost use Rattle.transactions.specs.Slots.{idle, run_of, begun, begin_refused, read, read_refused, noted_in, wrote, write_refused, added_in, end_refused, is_going};
+ghost use Rattle.std.specs.Prelude.{◌≡◌, Some};
+ghost use Rattle.transactions.specs.Slots.{idle, run_of, begun, begin_refused, read, read_refused, wrote, write_refused, end_refused, is_going, Turns, Runs};
 
 use super::transaction::*;
 use model::*;
 
-// What a slot holds.
+// What a slot holds: a transaction under way, or nothing.
 #[derive(Clone, Copy)]
-pub enum Slot {
-    Idle,
-    Active(Transaction),
+pub struct Slot {
+    pub running: Option<Transaction>,
 }
 
-// Each method answers the slot after it, and why it was refused, if it was.
+// What a transaction does is a method by value, which answers the slot after it, or why it is refused.
 impl Slot {
-    // A transaction begins when this many commits are done.
-    pub fn begun(self, level: Level, done: u32) -> (Slot, Option<Refusal>)
-        ensures slot { run_of result.0 ≡ begun level done (run_of self) }
-        ensures refused { result.1 ≡ begin_refused (run_of self) }
+    // A slot in which nothing runs.
+    pub fn idle() -> Slot
+        ensures { run_of result ≡ idle }
     {
-        match self {
-            Slot::Idle => (Slot::Active(Transaction::started(level, done)), None),
-            Slot::Active(t) => (Slot::Active(t), Some(Refusal::SlotState)),
+        Slot { running: None }
+    }
+
+    fn active(t: Transaction) -> Slot
+        ensures { result.running ≡ Some t }
+    {
+        Slot { running: Some(t) }
+    }
+
+    // What runs in it, where something does.
+    pub fn transaction(self) -> Result<Transaction, Refusal>
+        ensures { Runs self result }
+    {
+        self.running.ok_or(Refusal::SlotState)
+    }
+
+    // A transaction begins when this many commits are done.
+    pub fn begun(self, level: Level, done: u32) -> Result<Slot, Refusal>
+        ensures { Turns (begun level done) begin_refused self result }
+    {
+        if self.is_busy() {
+            return Err(Refusal::SlotState);
         }
+        Ok(Slot::active(Transaction::started(level, done)))
     }
 
     // A read is noted.
-    pub fn read(self, from: u32, to: u32, at: u32) -> (Slot, Option<Refusal>)
-        ensures slot { run_of result.0 ≡ read from to at (run_of self) }
-        ensures refused { result.1 ≡ read_refused (run_of self) }
+    pub fn read(self, from: u32, to: u32, at: u32) -> Result<Slot, Refusal>
+        ensures { Turns (read from to at) read_refused self result }
     {
-        match self {
-            Slot::Idle => (Slot::Idle, Some(Refusal::SlotState)),
-            Slot::Active(t) => match t.read_noted(from, to, at) {
-                Ok(u) => (Slot::Active(u), None),
-                Err(u) => (Slot::Active(u), Some(Refusal::TooMany)),
-            },
-        }
+        let noted = self.transaction()?.read_noted(from, to, at);
+        Ok(Slot::active(noted.map_err(|_| Refusal::TooMany)?))
     }
 
     // A write is added.
-    pub fn written(self, e: Entry) -> (Slot, Option<Refusal>)
-        ensures slot { run_of result.0 ≡ wrote e (run_of self) }
-        ensures refused { result.1 ≡ write_refused (run_of self) }
+    pub fn written(self, e: Entry) -> Result<Slot, Refusal>
+        ensures { Turns (wrote e) write_refused self result }
     {
-        match self {
-            Slot::Idle => (Slot::Idle, Some(Refusal::SlotState)),
-            Slot::Active(t) => match t.write_added(e) {
-                Ok(u) => (Slot::Active(u), None),
-                Err(u) => (Slot::Active(u), Some(Refusal::TooMany)),
-            },
-        }
+        let added = self.transaction()?.write_added(e);
+        Ok(Slot::active(added.map_err(|_| Refusal::TooMany)?))
     }
 
     // Whether a transaction runs in it.
     pub fn is_busy(&self) -> bool
         ensures { result ≡ is_going (run_of self.now) }
     {
-        match *self {
-            Slot::Idle => false,
-            Slot::Active(_) => true,
-        }
+        self.running.is_some()
     }
 
     // The transaction ends.
-    pub fn ended(self) -> (Slot, Option<Refusal>)
-        ensures slot { run_of result.0 ≡ idle }
-        ensures refused { result.1 ≡ end_refused (run_of self) }
+    pub fn ended(self) -> Result<Slot, Refusal>
+        ensures { Turns (λ _. idle) end_refused self result }
     {
-        match self {
-            Slot::Idle => (Slot::Idle, Some(Refusal::SlotState)),
-            Slot::Active(_) => (Slot::Idle, None),
-        }
-    }
-
-    // With a read noted; where there are 64 or nothing runs, as it was.
-    pub fn noted(self, from: u32, to: u32, at: u32) -> Slot
-        ensures { run_of result ≡ noted_in from to at (run_of self) }
-    {
-        match self {
-            Slot::Idle => Slot::Idle,
-            Slot::Active(t) => Slot::Active(t.noted(from, to, at)),
-        }
-    }
-
-    // With a write added; where there are 64 or nothing runs, as it was.
-    pub fn added(self, e: Entry) -> Slot
-        ensures { run_of result ≡ added_in e (run_of self) }
-    {
-        match self {
-            Slot::Idle => Slot::Idle,
-            Slot::Active(t) => Slot::Active(t.added(e)),
-        }
-    }
-
-    // Nothing runs in it any more.
-    pub fn freed(self) -> Slot
-        ensures { run_of result ≡ idle }
-    {
-        Slot::Idle
+        self.transaction()?;
+        Ok(Slot::idle())
     }
 }

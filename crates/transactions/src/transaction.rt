@@ -6,7 +6,8 @@ use model::*;
 
 mod steps;
 
-// A transaction under way: the first `read_count` reads and the first `write_count` writes count, in their order.
+// A transaction under way: the first `read_count` reads and the first `write_count` writes count, in their order. Arrays with
+// their counts, copied as a plain value (docs/DECISIONS.md, "Forms").
 #[derive(Clone, Copy)]
 pub struct Transaction {
     pub level: Level,

@@ -3,7 +3,6 @@ pub mod Sums
 mod Places
 mod Stacks
 mod Copies
-mod Searches
 pub mod Named
 pub mod Moments
 pub mod Newest

@@ -1,31 +1,27 @@
 -- Laws of a commit's writes, taken from the last to the first.
-use Rattle.std.proofs.Common.{◌≡◌, ℕ, zero, suc, ◌+◌, ◌-◌, ◌<◌, ◌≤◌, Bool, true, false, cond, eqb, leb, ◌≢◌, List, [], ◌∷◌, length, get_or, take, drop, sym, refl, ap, ◌∙◌, subst, inl, inr, arith, drop-cons, eq-eqb, ne_eqb, leb-false}
-use lib.Seq.{drop-length}
-use Rattle.std.proofs.lemmas.List.{take_rest}
-use Rattle.std.proofs.lemmas.Bool.{cases_eq, cases_Bool, both_ways}
+use Rattle.std.proofs.Common.{◌≡◌, ℕ, zero, suc, ◌+◌, ◌<◌, ◌≤◌, Bool, true, false, cond, eqb, ◌≢◌, List, [], ◌∷◌, length, get_or, drop, sym, refl, ap, ◌∙◌, inl, inr, arith, add-one, eq-eqb, ne_eqb}
+use Rattle.std.proofs.lemmas.List.{drop_more, drop_all}
+use Rattle.std.proofs.lemmas.Bool.{cond-true, cond-false, cases_eq, cases_Bool, both_ways, or_right}
 use Rattle.model.specs.declared.Entry.{Entry}
-use Rattle.model.specs.Lists.{any}
 use Rattle.model.specs.Transactions.{empty, put, puts, names}
 use Rattle.model.specs.Versions.{Version, committed, keys_of}
 use Rattle.versions.specs.Chain.{added}
-use Rattle.versions.specs.Writes.{outside}
-use Rattle.versions.proofs.Searches.{none, any_at, any_end}
 
-pub inside-at : (es : List Entry) (i : ℕ) → outside es ≡ false → i < length es → (get_or es i none).key < 4096
-inside-at es i h l = leb-false 4096 (get_or es i none).key (any_at (λ (e : Entry). leb 4096 e.key) es i h l)
+-- in place of a write, past the last
+abbrev pub none : Entry
+none = record { key = 0; value = 0 }
 
 module _ (k : ℕ) (e : Entry) (es : List Entry) where
   names-here : e.key ≡ k → names k (e ∷ es) ≡ true
-  unfolding any
   names-here h = rw (eq-eqb e.key k h)
 
   names-past : e.key ≢ k → names k (e ∷ es) ≡ names k es
-  unfolding any
   names-past h = rw (ne_eqb e.key k h)
 
-pub keys_end : (es : List Entry) → keys_of (drop (length es) es) ≡ 0
+-- behind the last write there is none
+pub keys_end : (es : List Entry) (i : ℕ) → length es ≤ i → keys_of (drop i es) ≡ 0
 unfolding keys_of
-keys_end es = rw (drop-length es)
+keys_end es i h = ap keys_of (drop_all i es h)
 
 pub keys-few : (es : List Entry) → keys_of es ≤ length es
 unfolding keys_of
@@ -33,15 +29,6 @@ keys-few [] = omega arith
 keys-few (e ∷ es) =
     let h : keys_of es ≤ length es = keys-few es in
     elim (names e.key es) as (λ (b : Bool). cond b (keys_of es) (keys_of es + 1) ≤ length (e ∷ es)) [ true ↦ omega arith | false ↦ omega arith ]
-
--- the writes from a place on name no more keys than all
-pub keys-part : (es : List Entry) (i : ℕ) → keys_of (drop i es) ≤ keys_of es
-unfolding keys_of
-keys-part es zero = omega arith
-keys-part [] (suc i) = omega arith
-keys-part (e ∷ es) (suc i) =
-    let h : keys_of (drop i es) ≤ keys_of es = keys-part es i in
-    elim (names e.key es) as (λ (b : Bool). keys_of (drop i es) ≤ cond b (keys_of es) (keys_of es + 1)) [ true ↦ omega arith | false ↦ omega arith ]
 
 -- writes that do not name a key leave it
 pub puts_unnamed : (es : List Entry) (m : ℕ → ℕ) (k : ℕ) → names k es ≡ false → puts es m k ≡ m k
@@ -59,7 +46,7 @@ put-here e m k same = rw (eq-eqb k e.key (sym same))
 -- writes that name a key leave there the same, whatever was there
 pub puts-named : (es : List Entry) (m n : ℕ → ℕ) (k : ℕ) → names k es ≡ true → puts es m k ≡ puts es n k
 unfolding puts
-puts-named [] m n k h = let z : ⊥ = both_ways (names k []) (any_end (λ (e : Entry). eqb e.key k) [] 0 (omega arith)) h in elim z [ ]
+puts-named [] m n k h = absurd (both_ways false refl h)
 puts-named (e ∷ es) m n k h =
     elim (cases_Bool (names k es)) [
       | inl y ↦ puts-named es (put e m) (put e n) k y
@@ -70,67 +57,41 @@ puts-named (e ∷ es) m n k h =
           ]
     ]
 
-module _ (number : ℕ) (e : Entry) (es : List Entry) (k : ℕ) (vs : List Version) where
-  commit-past : e.key ≢ k → committed number (e ∷ es) k vs ≡ committed number es k vs
-  unfolding puts
-  commit-past other =
-      rw (names-past k e es other)
-      (elim (cases_Bool (names k es))
-      [ inl y ↦ rw (y, puts-named es (put e empty) empty k y) | inr n ↦ rw n ])
+-- where the writes behind a place do not name its key, the one there is what they leave
+last_put : (es : List Entry) (i : ℕ) (m : ℕ → ℕ) (k : ℕ) → i < length es → (get_or es i none).key ≡ k → names k (drop (suc i) es) ≡ false
+    → (names k es ≡ true) × (puts es m k ≡ (get_or es i none).value)
+unfolding puts
+last_put [] i m k h same out = absurd (omega arith)
+last_put (e ∷ es) zero m k h same out = (names-here k e es same, puts_unnamed es (put e m) k out ∙ put-here e m k same)
+last_put (e ∷ es) (suc i) m k h same out = let l = last_put es i (put e m) k (omega arith) same out in (or_right (eqb e.key k) (names k es) l.0, l.1)
 
-  -- where the key is written later too, the later write counts
-  commit-old : names e.key es ≡ true → committed number (e ∷ es) k vs ≡ committed number es k vs
-  unfolding puts
-  commit-old later =
-      elim (cases_eq e.key k) [
-        | inl same ↦
-            let y : names k es ≡ true = subst (λ (x : ℕ). names x es ≡ true) same later in
-            rw (names-here k e es same, y, puts-named es (put e empty) empty k y)
-        | inr other ↦ commit-past other
-      ]
+-- the write at a place; b says whether one of those behind it is of the same key
+module _ (es : List Entry) (i : ℕ) (low : i < length es) (b : Bool) (later : b ≡ names (get_or es i none).key (drop (i + 1) es)) where
+  split : drop i es ≡ get_or es i none ∷ drop (i + 1) es
+  split = drop_more es i none low
 
-  commit-new : names e.key es ≡ false → added e.key number e.value (λ j. committed number es k vs) k ≡ committed number (e ∷ es) k vs
-  unfolding puts
-  commit-new later =
-      elim (cases_eq e.key k) [
-        | inl same ↦
-            let n : names k es ≡ false = subst (λ (x : ℕ). names x es ≡ false) same later in
-            rw (eq-eqb k e.key (sym same), n, names-here k e es same, puts_unnamed es (put e empty) k n, eq-eqb k e.key (sym same))
-        | inr other ↦ rw (ne_eqb k e.key (λ x. other (sym x))) (sym (commit-past other))
-      ]
-
-pub commit-none : (number : ℕ) (es : List Entry) (k : ℕ) (vs : List Version) → committed number (drop (length es) es) k vs ≡ vs
-commit-none number es k vs = rw (any_end (λ (e : Entry). eqb e.key k) es (length es) (omega arith))
-
--- the write at place i - 1, and the rest behind it
-abbrev pub before : List Entry → ℕ → Entry
-before es i = get_or es (i - 1) none
-
-abbrev pub behind : List Entry → ℕ → List Entry
-behind es i = take (length es - (i - 1 + 1)) (drop (i - 1 + 1) es)
-
--- one write more, from the writes from i on; b says whether one of them is of the same key
-module _ (es : List Entry) (i : ℕ) (pos : 0 < i) (low : i ≤ length es) (b : Bool) (later : b ≡ names (before es i).key (behind es i)) where
-  back : drop (i - 1) es ≡ before es i ∷ drop i es
-  back =
-      let e : suc (i - 1) ≡ i = omega arith in
-      let lt : i - 1 < length es = omega arith in
-      subst (λ (m : ℕ). drop (i - 1) es ≡ before es i ∷ drop m es) e (drop-cons es (i - 1) none lt)
-
-  named : names (before es i).key (drop i es) ≡ b
-  named =
-      let e : i - 1 + 1 ≡ i = omega arith in
-      subst (λ (m : ℕ). names (before es i).key (drop m es) ≡ b) e (sym (later ∙ ap (names (before es i).key) (take_rest es (i - 1 + 1))))
-
-  pub keys_step : keys_of (drop (i - 1) es) ≡ cond b (keys_of (drop i es)) (keys_of (drop i es) + 1)
+  pub keys_step : keys_of (drop i es) ≡ cond b (keys_of (drop (i + 1) es)) (keys_of (drop (i + 1) es) + 1)
   unfolding keys_of
-  keys_step = ap keys_of back ∙ ap (λ (x : Bool). cond x (keys_of (drop i es)) (keys_of (drop i es) + 1)) named
+  keys_step = ap keys_of split ∙ ap (λ (x : Bool). cond x (keys_of (drop (i + 1) es)) (keys_of (drop (i + 1) es) + 1)) (sym later)
 
-  pub commit-step : (n k : ℕ) (vs cur : List Version) → cur ≡ committed n (drop i es) k vs
-      → cond b cur (added (before es i).key n (before es i).value (λ j. cur) k) ≡ committed n (drop (i - 1) es) k vs
-  commit-step n k vs cur same = go b named ∙ sym (ap (λ (ws : List Entry). committed n ws k vs) back)
+  -- the keys that are named from the place on have their old versions, and the others what the writes leave
+  pub commit-step : (n k : ℕ) (vs cur : List Version) → cur ≡ cond (names k (drop i es)) vs (committed n es k vs)
+      → cond b cur (added (get_or es i none).key n (get_or es i none).value (λ j. cur) k) ≡ cond (names k (drop (i + 1) es)) vs (committed n es k vs)
+  commit-step n k vs cur same =
+      elim (cases_eq (get_or es i none).key k) [
+        | inl e ↦ of-key b (ap (λ (x : ℕ). names x (drop (i + 1) es)) (sym e) ∙ sym later) e
+            (same ∙ cond-true _ _ _ (ap (names k) split ∙ names-here k (get_or es i none) (drop (i + 1) es) e))
+        | inr other ↦ other-key b (λ e. other (sym e)) (same ∙ ap (λ (x : Bool). cond x vs (committed n es k vs)) (ap (names k) split ∙ names-past k (get_or es i none) (drop (i + 1) es) other))
+      ]
     where
-      go : (x : Bool) → names (before es i).key (drop i es) ≡ x
-          → cond x cur (added (before es i).key n (before es i).value (λ j. cur) k) ≡ committed n (before es i ∷ drop i es) k vs
-      go true h = same ∙ sym (commit-old n (before es i) (drop i es) k vs h)
-      go false h = ap (λ (xs : List Version). added (before es i).key n (before es i).value (λ j. xs) k) same ∙ commit-new n (before es i) (drop i es) k vs h
+      of-key : (x : Bool) → names k (drop (i + 1) es) ≡ x → (get_or es i none).key ≡ k → cur ≡ vs
+          → cond x cur (added (get_or es i none).key n (get_or es i none).value (λ j. cur) k) ≡ cond (names k (drop (i + 1) es)) vs (committed n es k vs)
+      of-key true h e c = c ∙ sym (cond-true _ _ _ h)
+      of-key false h e c =
+          let l = last_put es i empty k low e (ap (λ (m : ℕ). names k (drop m es)) (sym (add-one i)) ∙ h) in
+          rw (h, l.0, l.1, eq-eqb k (get_or es i none).key (sym e), c) refl
+
+      other-key : (x : Bool) → k ≢ (get_or es i none).key → cur ≡ cond (names k (drop (i + 1) es)) vs (committed n es k vs)
+          → cond x cur (added (get_or es i none).key n (get_or es i none).value (λ j. cur) k) ≡ cond (names k (drop (i + 1) es)) vs (committed n es k vs)
+      other-key true ne c = c
+      other-key false ne c = cond-false _ _ _ (ne_eqb k (get_or es i none).key ne) ∙ c

@@ -7,7 +7,7 @@ use Rattle.model.specs.Lists.{any}
 use Rattle.model.specs.Transactions.{Txn, empty, puts, names, both_write}
 use Rattle.model.specs.Commits.{Commit, numbered, commits, unseen, wrote_since}
 use Rattle.model.specs.Versions.{Version, committed, versions_from, versions, swept, newer}
-use Rattle.versions.specs.Writes.{outside}
+use Rattle.model.specs.Transactions.{outside}
 use Rattle.versions.specs.Laws.{written_since, some_newer, NewestDecides}
 
 -- the newest stays
@@ -71,7 +71,7 @@ or_no true = refl
 or_no false = refl
 
 newer-from : (ts : List Txn) (b k n : ℕ) (vs : List Version) → Below n vs → newer b (versions_from k n vs ts) ≡ (any (wrote b k) (numbered n ts) || newer b vs)
-unfolding versions_from any numbered
+unfolding versions_from numbered
 newer-from [] b k n vs h = refl
 newer-from (t ∷ ts) b k n vs h =
     newer-from ts b k (suc n) (committed n t.writes k vs) (below-committed t.writes k n vs h)
@@ -87,7 +87,6 @@ wrote_some b es d = unseen b d && both_write es d.txn.writes
 
 -- the two quantifiers change places
 one_key : (b : ℕ) (e : Entry) (es : List Entry) (ds : List Commit) → any (wrote_some b (e ∷ es)) ds ≡ (any (wrote b e.key) ds || any (wrote_some b es) ds)
-unfolding any
 one_key b e es [] = refl
 one_key b e es (d ∷ ds) = ap (λ r. wrote_some b (e ∷ es) d || r) (one_key b e es ds)
     ∙ regroup (unseen b d) (names e.key d.txn.writes) (both_write es d.txn.writes) (any (wrote b e.key) ds) (any (wrote_some b es) ds)
@@ -101,7 +100,6 @@ one_key b e es (d ∷ ds) = ap (λ r. wrote_some b (e ∷ es) d || r) (one_key b
     regroup true false false false y = refl
 
 none : (b : ℕ) (ds : List Commit) → any (wrote_some b []) ds ≡ false
-unfolding any
 none b [] = refl
 none b (d ∷ ds) = ap (λ r. (unseen b d && false) || r) (none b ds) ∙ no_matter (unseen b d)
   where
@@ -110,13 +108,11 @@ none b (d ∷ ds) = ap (λ r. (unseen b d && false) || r) (none b ds) ∙ no_mat
     no_matter false = refl
 
 pub newest_decides : NewestDecides
-unfolding any
 newest_decides done b floor [] = none b (commits done)
 newest_decides done b floor (e ∷ es) = one_key b e es (commits done) ∙ (λ i. sym (newer-by done b e.key floor) i || newest_decides done b floor es i)
 
 -- what holds of the versions of each key that there is, holds of the keys of writes
 newer-same : (b : ℕ) (vs ws : ℕ → List Version) (es : List Entry) → outside es ≡ false → ((k : ℕ) → k < 4096 → vs k ≡ ws k) → some_newer b vs es ≡ some_newer b ws es
-unfolding any
 newer-same b vs ws [] out h = refl
 newer-same b vs ws (e ∷ es) out h =
     let p = or_parts (leb 4096 e.key) (outside es) out in

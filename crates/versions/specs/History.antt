@@ -6,7 +6,7 @@ use Rattle.model.specs.Transactions.{Txn, empty, after}
 use Rattle.model.specs.Commits.{wrote_since}
 use Rattle.model.specs.Versions.{versions, swept, keys_of}
 use Rattle.versions.specs.declared.store.Versions.{Versions}
-use Rattle.versions.specs.Writes.{outside}
+use Rattle.model.specs.Transactions.{outside}
 use Rattle.versions.specs.Chain.{total}
 use Rattle.versions.specs.Store.{held, size, spaces}
 use Rattle.versions.specs.Laws.{written_since}

@@ -1,7 +1,8 @@
 pub mod Sizes
 pub mod Chain
+pub mod Words
 pub mod Lent
-pub mod Writes
 pub mod Store
 pub mod Laws
 pub mod History
+pub mod Rooms

@@ -7,7 +7,7 @@ use Rattle.model.specs.Versions.{Version, committed, keys_of}
 use Rattle.versions.specs.declared.store.Versions.{Versions}
 use Rattle.versions.specs.Chain.{total}
 use Rattle.versions.specs.Lent.{view}
-use Rattle.versions.specs.Writes.{outside}
+use Rattle.model.specs.Transactions.{outside}
 
 -- the versions of a key, the latest first
 abbrev pub held : Versions → ℕ → List Version

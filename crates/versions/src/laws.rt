@@ -2,12 +2,10 @@
 ghost use Rattle.versions.specs.Laws.{ShowAll, SweepHides, SweepTwice, SweepAlong, NewestDecides};
 
 // The laws stand: a caller has them for any commits, with no store at hand.
-pub fn laws_stand() -> u8
+pub fn laws_stand()
     ensures show { ShowAll }
     ensures hides { SweepHides }
     ensures twice { SweepTwice }
     ensures along { SweepAlong }
     ensures newest { NewestDecides }
-{
-    0
-}
+{}

@@ -3,11 +3,13 @@
 
 mod chains;
 mod laws;
+mod room;
 mod spare;
 mod store;
 mod words;
 mod writes;
 
 pub use laws::laws_stand;
+pub use room::{Room, Set};
 pub use store::Versions;
 pub use words::{KEYS, PLACES, ROOM, Words};

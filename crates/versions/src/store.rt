@@ -1,7 +1,5 @@
 // A store of versions in lent words, and what is always true of it.
-ghost use Rattle.std.specs.Prelude.{◌≡◌, ◌≤◌, length};
-ghost use Rattle.versions.specs.Chain.{Fits};
-ghost use Rattle.versions.specs.Lent.{inside, Good};
+ghost use Rattle.std.specs.Prelude.{◌≡◌};
 
 use crate::chains::Chains;
 use crate::spare::Spare;
@@ -13,6 +11,5 @@ mod calls;
 pub struct Versions<'a> {
     chains: Chains<'a>,
     spare: Spare<'a>,
-    ghost good: { Good chains },
-    ghost ready: { Fits (inside spare.to) spare.to.room × (spare.to.room ≡ chains.room) × (chains.room ≤ length spare.stack.now) },
+    ghost ready: { spare.to.room ≡ chains.room },
 }

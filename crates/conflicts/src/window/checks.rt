@@ -2,6 +2,7 @@ ghost use Rattle.std.specs.Prelude.{◌≡◌, ◌≤◌, true, [], ◌∷◌, �
 ghost use Rattle.transactions.specs.Transactions.{model_of};
 ghost use Rattle.conflicts.specs.Marks.{marks_of, would_pivot, judged, from_floor, Taken, TakenIn};
 ghost use Rattle.conflicts.specs.Rising.{number_of, Rise, FrontBelow, RestFrom};
+ghost use Rattle.model.specs.Refusals.{refusal_in};
 ghost use Rattle.conflicts.specs.Held.{Fresh, PivotTold, Entered, Forgot, VerdictTold};
 
 use super::marks::*;
@@ -29,7 +30,7 @@ impl Window {
         ensures unseen { self.now.rising ≡ true → RestFrom begin result self.now.all.items }
     {
         if self.rising {
-            without_end(&self.all, begin)
+            self.all.partition_point(|c| c.number < begin)
         } else {
             0
         }
@@ -39,8 +40,7 @@ impl Window {
     fn rising_with(&self, number: u32) -> bool
         ensures { result ≡ true → Rise (map number_of self.now.all.items ++ (number ∷ [])) }
     {
-        let len = self.all.len();
-        self.rising && (len == 0 || self.all[len - 1].number <= number)
+        self.rising && self.all.last().is_none_or(|c| c.number <= number)
     }
 
     // Whether there would be a pivot with t, a Serial, among the commits.
@@ -52,27 +52,17 @@ impl Window {
         pivot_with(t, &self.all[from..])
     }
 
-    // Why the rules refuse the commit of t, if they do, given whether a commit that t did not see wrote a key that it writes.
-    pub fn verdict(&self, t: &Transaction, conflict: bool) -> Option<Refusal>
-        ensures marks { result ≡ judged (model_of t.now).level conflict (would_pivot (model_of t.now) (marks_of self.now)) }
-        ensures rules { VerdictTold self.now (model_of t.now) conflict result }
+    // Whether the rules allow the commit of t, or why they refuse it, given whether a commit that t did not see wrote a key
+    // that it writes.
+    pub fn verdict(&self, t: &Transaction, conflict: bool) -> Result<(), Refusal>
+        ensures marks { refusal_in result ≡ judged (model_of t.now).level conflict (would_pivot (model_of t.now) (marks_of self.now)) }
+        ensures rules { VerdictTold self.now (model_of t.now) conflict (refusal_in result) }
     {
         match t.level {
-            Level::Latest => None,
-            Level::Snapshot => if conflict {
-                Some(Refusal::WriteConflict)
-            } else {
-                None
-            },
-            Level::Serial => {
-                if conflict {
-                    Some(Refusal::WriteConflict)
-                } else if self.would_pivot(t) {
-                    Some(Refusal::Pivot)
-                } else {
-                    None
-                }
-            }
+            Level::Latest => Ok(()),
+            _ if conflict => Err(Refusal::WriteConflict),
+            Level::Serial if self.would_pivot(t) => Err(Refusal::Pivot),
+            Level::Snapshot | Level::Serial => Ok(()),
         }
     }
 
@@ -83,7 +73,7 @@ impl Window {
         self.all.reserve(1)?;
         let heap = *self.all.allocator();
         let from = self.unseen_from(t.begin);
-        let new = marked(heap, t, number, &self.all[from..])?;
+        let new = Committed::of(heap, t, number, &self.all[from..])?;
         let rising = self.rising_with(number);
         remark_all(t, number, &mut self.all[from..]);
         self.all.push_reserved(new);
@@ -96,13 +86,10 @@ impl Window {
         ensures marks { TakenIn (model_of t.now) number (marks_of self.old) (marks_of self.new) result }
         ensures rules { Entered self.old self.new (model_of t.now) number result }
     {
-        match t.level {
-            Level::Latest | Level::Snapshot => Ok(()),
-            Level::Serial => match self.enter(t, number) {
-                Ok(()) => Ok(()),
-                Err(_) => Err(Refusal::NoMemory),
-            },
+        if t.level == Level::Serial {
+            self.enter(t, number)?;
         }
+        Ok(())
     }
 
     // Forgets those whose number is below the floor, which is the lowest begin of the Serials under way, or the number of
@@ -111,11 +98,7 @@ impl Window {
         ensures marks { marks_of self.new ≡ from_floor floor (marks_of self.old) }
         ensures rules { Forgot self.old self.new floor }
     {
-        let gone = front_below(&self.all, floor);
-        if gone > 0 {
-            let left = self.all.len() - gone;
-            self.all.rotate_left(gone);
-            self.all.truncate(left);
-        }
+        let gone = first_from(&self.all, floor).unwrap_or(self.all.len());
+        self.all.drain(..gone);
     }
 }

@@ -8,34 +8,25 @@ ghost use Rattle.serial_runs.specs.Standing.{commits, bad_line, Answered, Calls,
 
 use super::Runs;
 use crate::requests::as_serial;
-use model::{Answer, Call, Refusal, Request};
+use model::{Answer, Call, Refusal, Reply, Request};
 use order::{Past, line_of};
-use transactions::{Slot, Transaction};
+use transactions::Transaction;
 
-fn is_committed(answer: &Answer) -> bool
-    ensures { result ≡ commits (reply_of answer.now) }
+fn is_committed(reply: &Reply) -> bool
+    ensures { result ≡ commits (reply_of reply.now) }
 {
-    match answer {
-        Answer::Committed(_) => true,
-        _ => false,
-    }
+    matches!(reply, Ok(Answer::Committed(_)))
 }
 
-fn is_bad_line(answer: &Answer) -> bool
-    ensures { result ≡ bad_line (reply_of answer.now) }
+fn is_bad_line(reply: &Reply) -> bool
+    ensures { result ≡ bad_line (reply_of reply.now) }
 {
-    match answer {
-        Answer::Refused(refusal) => match *refusal {
-            Refusal::BadLine => true,
-            _ => false,
-        },
-        _ => false,
-    }
+    matches!(reply, Err(Refusal::BadLine))
 }
 
 impl Runs<'_, '_, '_, '_> {
     // Answers a request as the engine does, and keeps what each commit did.
-    pub fn answer(&mut self, request: Request) -> Answer
+    pub fn answer(&mut self, request: Request) -> Reply
         ensures { Answered request self.old self.new result }
     {
         match as_serial(request) {
@@ -45,7 +36,7 @@ impl Runs<'_, '_, '_, '_> {
     }
 
     // A call that has its place among Serials.
-    fn call(&mut self, call: Call) -> Answer
+    fn call(&mut self, call: Call) -> Reply
         ensures { Calls call self.old self.new result }
     {
         match call {
@@ -54,17 +45,17 @@ impl Runs<'_, '_, '_, '_> {
         }
     }
 
-    fn commit(&mut self, slot: u32) -> Answer
+    fn commit(&mut self, slot: u32) -> Reply
         ensures { Commits slot self.old self.new result }
     {
-        match self.slot(slot) {
-            Slot::Idle => self.ask(Request::Whole(Call::Commit { slot })),
-            Slot::Active(t) => self.commit_by(slot, &t),
+        match self.slot(slot).running {
+            Some(t) => self.commit_by(slot, &t),
+            None => self.ask(Request::Whole(Call::Commit { slot })),
         }
     }
 
     // Commits the transaction in the slot.
-    fn commit_by(&mut self, slot: u32, t: &Transaction) -> Answer
+    fn commit_by(&mut self, slot: u32, t: &Transaction) -> Reply
         ensures { CommitsOf slot (model_of t.now) self.old self.new result }
     {
         match self.past_of(t) {
@@ -81,32 +72,30 @@ impl Runs<'_, '_, '_, '_> {
         ensures pasts { self.new.pasts.items ≡ self.old.pasts.items }
     {
         let past = Past::of(self.heap, t)?;
-        match self.pasts.reserve(1) {
-            Ok(()) => Ok(past),
-            Err(_) => Err(Refusal::NoMemory),
-        }
+        self.pasts.reserve(1)?;
+        Ok(past)
     }
 
-    fn commit_as(&mut self, slot: u32, past: Past) -> Answer
+    fn commit_as(&mut self, slot: u32, past: Past) -> Reply
         requires { vec_len self.old.pasts < vec_capacity self.old.pasts }
         ensures { CommitsOf slot (past_of past) self.old self.new result }
     {
-        let answer = self.ask(Request::Whole(Call::Commit { slot }));
-        if is_committed(&answer) {
+        let reply = self.ask(Request::Whole(Call::Commit { slot }));
+        if is_committed(&reply) {
             self.pasts.push_reserved(past);
         }
-        answer
+        reply
     }
 
     // The answer to a commit for which there is no memory: a lower refusal goes first.
-    fn commit_without(&mut self, slot: u32) -> Answer
+    fn commit_without(&mut self, slot: u32) -> Reply
         ensures { (t : Txn) → CommitsOf slot t self.old self.new result }
     {
-        let answer = self.ask(Request::Faulty(Call::Commit { slot }));
-        if is_bad_line(&answer) {
-            return Answer::Refused(Refusal::NoMemory);
+        let reply = self.ask(Request::Faulty(Call::Commit { slot }));
+        if is_bad_line(&reply) {
+            return Err(Refusal::NoMemory);
         }
-        answer
+        reply
     }
 
     // The serial order of the commits.

@@ -1,18 +1,18 @@
 // What a store answers.
-ghost use Rattle.std.specs.Prelude.{◌≡◌, true, List, map, ◌==◌, slice_index_or};
-ghost use Rattle.transactions.specs.Slots.{idle, run_of};
+ghost use Rattle.std.specs.Prelude.{◌≡◌, true, ◌==◌};
+ghost use Rattle.transactions.specs.Slots.{run_of};
 ghost use Rattle.versions.specs.Store.{spaces};
-ghost use Rattle.history.specs.Engine.{fresh, Event, led};
-ghost use Rattle.history.specs.Promise.{Promised};
+ghost use Rattle.history.specs.Engine.{fresh};
+ghost use Rattle.store.specs.Fits.{run_at};
 ghost use Rattle.store.specs.Calls.{Is, DoesRecording, reply_of};
-ghost use Rattle.store.specs.Answers.{ready_of, is_stop, slotless_refusal, unready_refusal, Faulted, AnswersTo, AnswersToRecording};
+ghost use Rattle.store.specs.Answers.{ready_of, Promising, slotless_refusal, unready_refusal, Faulted, AnswersTo, AnswersToRecording};
 
 use super::Store;
 use crate::calls::is_out_of_bounds;
 use crate::stage::Stage;
 use crate::state::Tables;
 use journal::{Journal, LARGEST_RECORD};
-use model::{Answer, Call, Refusal, Request};
+use model::{Call, Refusal, Reply, Request};
 use transactions::Slot;
 
 // Of a call whose slot can't be read only the bounds are looked at.
@@ -26,48 +26,31 @@ fn slotless(call: Call) -> Refusal
     }
 }
 
-fn is_stop(call: Call) -> bool
-    ensures { result ≡ is_stop call }
-{
-    match call {
-        Call::Stop => true,
-        _ => false,
-    }
-}
-
 // Why a request is refused where there is no engine.
 fn unready(request: Request) -> Refusal
     ensures { result ≡ unready_refusal request }
 {
     match request {
-        Request::Whole(_) => Refusal::BadFile,
-        Request::Faulty(call) => if is_stop(call) {
-            Refusal::BadLine
-        } else {
-            Refusal::BadFile
-        },
-        Request::Slotless(_) => Refusal::BadFile,
-        Request::Unknown => Refusal::BadLine,
+        Request::Unknown | Request::Faulty(Call::Stop) => Refusal::BadLine,
+        Request::Whole(_) | Request::Faulty(_) | Request::Slotless(_) => Refusal::BadFile,
     }
 }
 
-// One call of an engine.
-fn call_of(tables: &mut Tables, call: Call, journal: &mut Journal) -> Answer
-    ensures { DoesRecording call tables.old journal.old tables.new journal.new result }
-{
-    match tables.refusal(call) {
-        Some(refusal) => Answer::Refused(refusal),
-        None => tables.perform_recording(call, journal),
+impl Tables<'_, '_> {
+    // One call of an engine.
+    fn call(&mut self, call: Call, journal: &mut Journal) -> Reply
+        ensures { DoesRecording call self.old journal.old self.new journal.new result }
+    {
+        self.check(call)?;
+        self.perform_recording(call, journal)
     }
-}
 
-// A call with a fault in its line is not done.
-fn faulty(tables: &Tables, call: Call) -> Answer
-    ensures { Faulted call tables.now result }
-{
-    match tables.refusal(call) {
-        Some(refusal) => Answer::Refused(refusal),
-        None => Answer::Refused(Refusal::BadLine),
+    // A call with a fault in its line is not done.
+    fn faulty(&self, call: Call) -> Reply
+        ensures { Faulted call self.now result }
+    {
+        self.check(call)?;
+        Err(Refusal::BadLine)
     }
 }
 
@@ -88,15 +71,16 @@ impl<'t, 's, 'a> Store<'t, 's, 'a> {
 impl Store<'_, '_, '_> {
     // What runs in the slot; a slot that there isn't is idle.
     pub fn slot(&self, slot: u32) -> Slot
-        ensures { run_of result ≡ slice_index_or (map run_of self.now.tables.now.slots) slot idle }
+        ensures { run_of result ≡ run_at slot self.now.tables.now.slots }
     {
         self.tables.slot(slot)
     }
 
-    // The answer to one request, where nobody wants the records.
-    pub fn answer(&mut self, request: Request) -> Answer
+    // The answer to one request, where nobody wants the records: the same over a journal for one record, which is
+    // not read.
+    pub fn answer(&mut self, request: Request) -> Reply
         ensures answers { AnswersTo request self.old self.new result }
-        ensures promises { (h : List Event) → Is (led h) self.new.tables.now → Promised h }
+        ensures promises { Promising self.new }
     {
         let mut record = [0; LARGEST_RECORD];
         let mut journal = Journal::over(&mut record);
@@ -104,18 +88,18 @@ impl Store<'_, '_, '_> {
     }
 
     // The answer to one request. The record of a commit goes to the journal.
-    pub fn answer_recording(&mut self, request: Request, journal: &mut Journal) -> Answer
+    pub fn answer_recording(&mut self, request: Request, journal: &mut Journal) -> Reply
         ensures answers { AnswersToRecording request self.old journal.old self.new journal.new result }
-        ensures promises { (h : List Event) → Is (led h) self.new.tables.now → Promised h }
+        ensures promises { Promising self.new }
     {
         if !self.stage.is_ready() {
-            return Answer::Refused(unready(request));
+            return Err(unready(request));
         }
         match request {
-            Request::Whole(call) => call_of(self.tables, call, journal),
-            Request::Faulty(call) => faulty(self.tables, call),
-            Request::Slotless(call) => Answer::Refused(slotless(call)),
-            Request::Unknown => Answer::Refused(Refusal::BadLine),
+            Request::Whole(call) => self.tables.call(call, journal),
+            Request::Faulty(call) => self.tables.faulty(call),
+            Request::Slotless(call) => Err(slotless(call)),
+            Request::Unknown => Err(Refusal::BadLine),
         }
     }
 }

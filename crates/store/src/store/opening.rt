@@ -1,14 +1,10 @@
 // Opens a file.
-ghost use Rattle.std.specs.Prelude.{List};
-ghost use Rattle.history.specs.Engine.{Event, led};
-ghost use Rattle.history.specs.Promise.{Promised};
-ghost use Rattle.store.specs.Calls.{Is};
+ghost use Rattle.store.specs.Answers.{Promising};
 ghost use Rattle.store.specs.Opening.{Starts, ReadOn, Idles, Opens, OpensCut, SmallFine, NotOpened};
 
 use super::Store;
-use crate::opening::Opening;
+use crate::opening::OpenError;
 use crate::reader::Reader;
-use crate::restore::replay;
 use crate::stage::Stage;
 use std::alloc::AllocError;
 
@@ -33,29 +29,30 @@ impl Store<'_, '_, '_> {
             return Ok(());
         }
         reader.take(piece)?;
-        let found = replay(self.tables, reader.left());
+        let found = self.tables.replay(reader.left());
         reader.note(found);
         Ok(())
     }
 
-    // The file ends here. Where it has no flaw the engine is ready; else there is none.
-    pub fn open(&mut self, reader: &Reader) -> Opening
+    // The file ends here. Where it has no flaw the engine is ready, and the answer is how many bytes its whole records
+    // have; what follows is cut short. Else there is no engine.
+    pub fn open(&mut self, reader: &Reader) -> Result<u64, OpenError>
         ensures opens { Opens reader.now self.old self.new result }
         ensures cut { OpensCut reader.now self.old self.new }
         ensures fine { SmallFine }
         ensures not_loading { NotOpened self.old self.new result }
-        ensures promises { (h : List Event) → Is (led h) self.new.tables.now → Promised h }
+        ensures promises { Promising self.new }
     {
         if !self.stage.is_loading() {
-            return Opening::NotLoading;
+            return Err(OpenError::NotLoading);
         }
         if let Some(flaw) = reader.flaw() {
             self.tables.reset();
             self.stage = Stage::Unreadable;
-            return Opening::Bad(flaw);
+            return Err(OpenError::Bad(flaw));
         }
         self.tables.settle();
         self.stage = Stage::Ready;
-        Opening::Whole { bytes: reader.at() }
+        Ok(reader.at())
     }
 }

@@ -1,7 +1,7 @@
 ghost use Rattle.std.specs.Prelude.{◌≡◌, length, nat_le};
 ghost use Rattle.model.specs.Transactions.{began, moment};
 ghost use Rattle.transactions.specs.Noted.{Leaves};
-ghost use Rattle.transactions.specs.Transactions.{noted_of, model_of, ReadNoted, WriteAdded, noted, added};
+ghost use Rattle.transactions.specs.Transactions.{noted_of, model_of, ReadNoted, WriteAdded};
 
 use super::*;
 use crate::looks::*;
@@ -13,83 +13,43 @@ impl Transaction {
     pub fn started(level: Level, begin: u32) -> Transaction
         ensures { model_of result ≡ began level begin }
     {
-        let read = NotedRead {
-            from: 0,
-            to: 0,
-            at: 0,
-            own: 0,
-        };
-        let write = Entry { key: 0, value: 0 };
         Transaction {
             level,
             begin,
-            reads: [read; 64],
+            reads: [NotedRead::default(); 64],
             read_count: 0,
-            writes: [write; 64],
+            writes: [Entry::default(); 64],
             write_count: 0,
         }
     }
 
-    // With one read more; where it has 64, the transaction as it was.
-    pub fn read_noted(self, from: u32, to: u32, at: u32) -> Result<Transaction, Transaction>
+    // With one read more, by the ends as a call and a noted read have them; where it has 64, the transaction as it was.
+    pub fn read_noted(mut self, from: u32, to: u32, at: u32) -> Result<Transaction, Transaction>
         ensures { ReadNoted self from to at result }
     {
-        let n = self.read_count;
-        if n >= 64 {
+        if self.reads_full() {
             return Err(self);
         }
-        let mut t = self;
-        t.reads[n] = NotedRead {
+        self.reads[self.read_count] = NotedRead {
             from,
             to,
             at,
-            own: t.write_count as u32,
+            own: self.write_count as u32,
         };
-        t.read_count = n + 1;
-        Ok(t)
+        self.read_count += 1;
+        Ok(self)
     }
 
     // With one write more; where it has 64, the transaction as it was.
-    pub fn write_added(self, e: Entry) -> Result<Transaction, Transaction>
+    pub fn write_added(mut self, e: Entry) -> Result<Transaction, Transaction>
         ensures { WriteAdded self e result }
     {
-        let n = self.write_count;
-        if n >= 64 {
+        if self.writes_full() {
             return Err(self);
         }
-        let mut t = self;
-        t.writes[n] = e;
-        t.write_count = n + 1;
-        Ok(t)
-    }
-
-    // With one read more; as it was where it has 64.
-    pub fn noted(mut self, from: u32, to: u32, at: u32) -> Transaction
-        ensures { model_of result ≡ noted from to at (model_of self) }
-    {
-        let n = self.read_count;
-        if n < 64 {
-            self.reads[n] = NotedRead {
-                from,
-                to,
-                at,
-                own: self.write_count as u32,
-            };
-            self.read_count = n + 1;
-        }
-        self
-    }
-
-    // With one write more; as it was where it has 64.
-    pub fn added(mut self, e: Entry) -> Transaction
-        ensures { model_of result ≡ added e (model_of self) }
-    {
-        let n = self.write_count;
-        if n < 64 {
-            self.writes[n] = e;
-            self.write_count = n + 1;
-        }
-        self
+        self.writes[self.write_count] = e;
+        self.write_count += 1;
+        Ok(self)
     }
 
     // Whether one read more would be refused.
@@ -120,16 +80,14 @@ impl Transaction {
     pub fn own_reads(&self) -> &[NotedRead]
         ensures { result.now ≡ noted_of self.now }
     {
-        let n = self.read_count;
-        &self.reads[0..n]
+        &self.reads[..self.read_count]
     }
 
     // Its writes, in their order.
     pub fn own_writes(&self) -> &[Entry]
         ensures { result.now ≡ (model_of self.now).writes }
     {
-        let n = self.write_count;
-        &self.writes[0..n]
+        &self.writes[..self.write_count]
     }
 
     // Its own last write of the key, if it has written it.

@@ -2,7 +2,7 @@
 ghost use Rattle.std.specs.Prelude.{◌≡◌, ℕ, ◌+◌, ◌≤◌, true, false, [], length};
 ghost use Rattle.model.specs.Versions.{shown, newer, swept};
 ghost use Rattle.versions.specs.Chain.{Fits, total};
-ghost use Rattle.versions.specs.Lent.{lent_by};
+ghost use Rattle.versions.specs.Words.{lent_by};
 ghost use Rattle.versions.specs.Laws.{some_newer};
 ghost use Rattle.versions.specs.Sizes.{room_in};
 ghost use Rattle.versions.specs.Store.{held, size, spaces, room_for, Committed};
@@ -12,8 +12,8 @@ use super::Versions;
 use crate::chains::Chains;
 use crate::spare::Spare;
 use crate::words::{ROOM, Words};
-use crate::writes::{outside, versions_of};
-use model::{Entry, Refusal};
+use crate::writes::versions_of;
+use model::{Entry, Refusal, outside};
 
 // How many versions there is room for: all, or none where a slice has another length than it should.
 fn room_in(words: &Words, spare: &Words, stack: &[u32]) -> u32
@@ -71,12 +71,7 @@ impl Versions<'_> {
         ensures value { result ≡ some_newer begin (held self.now) writes.now }
         ensures history { ConflictBy self.now writes.now begin result }
     {
-        for w in writes {
-            if self.newer(w.key, begin) {
-                return true;
-            }
-        }
-        false
+        self.chains.conflicts(begin, writes)
     }
 
     // How many versions there are in all.
@@ -134,8 +129,7 @@ impl Versions<'_> {
         ensures history { SweepBy floor self.old self.new }
         ensures few { FewBy floor self.old self.new }
     {
-        self.spare.sweep(&self.chains, floor);
-        std::mem::swap(&mut self.chains, &mut self.spare.to);
+        self.spare.sweep(&mut self.chains, floor);
     }
 
     // No versions at all.

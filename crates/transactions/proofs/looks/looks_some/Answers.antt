@@ -1,14 +1,13 @@
-use Rattle.std.proofs.Common.{sym, refl}
+use Rattle.std.proofs.Common.{sym, ◌∙◌, rules}
+use borrow.Author.Tests.{tests}
+use Rattle.std.proofs.lemmas.Iterator.{YieldsList-from_slice}
+use Rattle.std.proofs.lemmas.Iterator.Search.{any_from_yields_List}
 use Rattle.model.specs.Transactions.{looks_at}
 use Rattle.transactions.specs.Noted.{read_of}
-use Rattle.transactions.proofs.Anys.{any-map-here, any-map-on, any-map-none}
+use Rattle.transactions.proofs.Anys.{any_map}
 use Rattle.transactions.proofs.looks.looks_some.Goals as goal
 
-pub returns-then-looks_at : goal.returns-then-looks_at
-returns-then-looks_at c = any-map-here (looks_at c.args.key) (read_of c.args.own.now) _ _ _ _ c.loop-r-test.true refl c.loop-r.invariant (sym c.if-looks_at.ensures)
-
-pub loop-r-preserved : goal.loop-r-preserved
-loop-r-preserved c = any-map-on (looks_at c.args.key) (read_of c.args.own.now) _ _ _ _ c.loop-r-test.true refl c.loop-r.invariant (sym c.if-looks_at.ensures)
-
 pub returns : goal.returns
-returns c = any-map-none (looks_at c.args.key) (read_of c.args.own.now) _ _ c.loop-r-test.false c.loop-r.invariant
+returns c =
+    any_from_yields_List (λ r. looks_at c.args.key (read_of c.args.own.now r)) _ _ c.any.result c.any.ensures.ran (YieldsList-from_slice c.args.reads.now cc) (λ x b q k. search (rules, tests))
+    ∙ sym (any_map (looks_at c.args.key) (read_of c.args.own.now) c.args.reads.now)

@@ -1,26 +1,13 @@
-use Rattle.std.proofs.Common.{◌≡◌, ◌-◌, map, length, get_or, vec_items, ap, arith}
-use Rattle.std.proofs.lemmas.List.{get_or-map, length-map}
-use Rattle.std.proofs.lemmas.Bool.{leb-true}
+use Rattle.std.proofs.Common.{◌-◌, ◌<◌, ◌≤◌, map, length, get_or, vec_items, rules}
+use Rattle.std.proofs.lemmas.List.Sorted.{IsNonDecreasingBy-push}
+use Rattle.conflicts.specs.declared.window.Committed.{Committed}
 use Rattle.conflicts.specs.Rising.{number_of}
-use Rattle.conflicts.proofs.Seen.{rise_push}
+use Rattle.conflicts.proofs.Seen.{last_number}
 use Rattle.conflicts.proofs.window.Window.rising_with.Goals as goal
 
-pub returns-then-len-eq0 : goal.returns-then-len-eq0
-returns-then-len-eq0 c _ =
+pub returns-then-self : goal.returns-then-self
+returns-then-self c e =
     let w = c.args.self.now in
     let cs = vec_items w.all in
-    rise_push (map number_of cs) c.args.number (w.rises c.if-self.true) (λ l. absurd (omega (arith, length-map cs number_of)))
-
-pub returns-else-len-eq0 : goal.returns-else-len-eq0
-returns-else-len-eq0 c e =
-    let w = c.args.self.now in
-    let cs = vec_items w.all in
-    let n : c.len-len.result ≡ length (map number_of cs) = omega (arith, length-map cs number_of) in
-    rise_push (map number_of cs) c.args.number (w.rises c.if-self.true) (λ l.
-    omega (
-      arith,
-      ap (λ k. get_or (map number_of cs) (k - 1) 0) n,
-      get_or-map number_of cs (c.len-len.result - 1) c.index.result.now 0 (omega (arith, length-map cs number_of)),
-      ap number_of c.index.ensures,
-      leb-true c.index.result.now.number c.args.number e,
-    ))
+    let last : (d : Committed) → 0 < length cs → (get_or cs (length cs - 1) d).number ≤ c.args.number = search rules in
+    IsNonDecreasingBy-push (λ k. k) (map number_of cs) c.args.number (w.rises c.if-self.true) (last_number cs c.args.number last)

@@ -1,26 +1,15 @@
-use Rattle.std.proofs.Common.{◌≡◌, true, false, cond, sym, refl, ap, ◌∙◌, ⊎_elim}
+use Rattle.std.proofs.Common.{◌≡◌, true, false, refl, rules}
 use Rattle.transactions.specs.Transactions.{model_of}
 use Rattle.model.specs.Transactions.{is_serial}
-use Rattle.conflicts.specs.Marks.{marks_of, taken_in}
 use Rattle.conflicts.proofs.Rules.{entered-by_marks, left-by_marks}
 use Rattle.conflicts.proofs.window.Window.take_in.Goals as goal
 
-pub returns-in-Latest : goal.returns-in-Latest
-returns-in-Latest c =
-    let w = c.args.self.now in
-    let t = model_of c.args.t.now in
-    let s : is_serial t.level ≡ false = ⊎_elim (λ e. ap is_serial e) (λ e. ap is_serial e) c.in-Latest.is in
-    record {
-      marks = sym (ap (λ b. cond b (taken_in t c.args.number (marks_of w)) (marks_of w)) s);
-      rules = left-by_marks w w t c.args.number s refl;
-    }
+pub returns-in_ok-enter-clause-rules : goal.returns-in_ok-enter-clause-rules
+returns-in_ok-enter-clause-rules c =
+    let s : is_serial (model_of c.args.t.now).level ≡ true = search rules in
+    entered-by_marks c.args.self.now c.enter.new.self (model_of c.args.t.now) c.args.number s c.in_ok-enter.ensures
 
-pub returns-in-Ok : goal.returns-in-Ok
-returns-in-Ok c =
-    let w = c.args.self.now in
-    let t = model_of c.args.t.now in
-    let s : is_serial t.level ≡ true = ap is_serial c.in-Serial.is in
-    record {
-      marks = c.in-Ok.ensures ∙ sym (ap (λ b. cond b (taken_in t c.args.number (marks_of w)) (marks_of w)) s);
-      rules = entered-by_marks w c.enter.new.self t c.args.number s c.in-Ok.ensures;
-    }
+pub returns-else-eq-clause-rules : goal.returns-else-eq-clause-rules
+returns-else-eq-clause-rules c =
+    let s : is_serial (model_of c.args.t.now).level ≡ false = search rules in
+    left-by_marks c.args.self.now c.args.self.now (model_of c.args.t.now) c.args.number s refl

@@ -1,19 +1,25 @@
-use Rattle.std.proofs.Common.{◌-◌, ◌<◌, ◌≤◌, map, length, get_or, vec_items, subst, arith}
-use Rattle.std.proofs.lemmas.List.{length-map}
-use Rattle.conflicts.specs.Rising.{number_of, RestFrom}
-use Rattle.conflicts.proofs.Seen.{front_below}
+use Rattle.std.proofs.Common.{◌≡◌, ◌≤◌, true, false, ltb, length, get_or, sym, subst, vec_items, rules}
+use Rattle.std.specs.List.Sorted.{IsPartitionedBy, IsPartitionPoint}
+use Rattle.std.proofs.lemmas.Bool.{ltb-false}
+use Rattle.std.proofs.lemmas.List.Sorted.{IsPartitionPoint-from_clause, IsPartitionedBy-ltb}
+use Rattle.conflicts.specs.declared.window.Committed.{Committed}
+use Rattle.conflicts.specs.Rising.{number_of}
+use Rattle.conflicts.proofs.Seen.{rises_by, front_below}
 use Rattle.conflicts.proofs.window.Window.unseen_from.Goals as goal
 
 pub returns-then-self : goal.returns-then-self
 returns-then-self c =
     let w = c.args.self.now in
-    let r = c.without_end.result in
     let cs = vec_items w.all in
+    let b = c.args.begin in
+    let r = c.partition_point.result in
     let e = c.deref.ensures.value in
-    let within : r ≤ length cs = subst (λ l. r ≤ length l) e c.without_end.ensures.within in
-    let last : 0 < r → get_or (map number_of cs) (r - 1) 0 < c.args.begin = subst (λ l. 0 < r → get_or (map number_of l) (r - 1) 0 < c.args.begin) e c.without_end.ensures.last in
+    let below = λ (x : Committed). ltb x.number b in
+    let parted = IsPartitionedBy-ltb number_of cs b (rises_by cs (w.rises c.if-self.true)) in
+    let there = IsPartitionPoint-from_clause below _ r c.partition_point.ensures.partitioned (subst (IsPartitionedBy below) (sym e) parted) (λ a r q k. search rules) in
+    let point = subst (λ l. IsPartitionPoint (λ x. below x ≡ true) (λ x. below x ≡ false) l r) e there in
     record {
-      within = within;
-      seen = front_below c.args.begin cs r (w.rises c.if-self.true) (omega (arith, length-map cs number_of)) last;
-      unseen = λ _. subst (RestFrom c.args.begin r) e c.without_end.ensures.rest;
+      within = subst (λ l. r ≤ length l) e c.partition_point.ensures.bound;
+      seen = front_below b cs r point.0;
+      unseen = λ _ k d l m. ltb-false (number_of (get_or cs k d)) b (point.1 k d l m);
     }

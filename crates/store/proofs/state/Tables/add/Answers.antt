@@ -1,11 +1,12 @@
-use Rattle.std.proofs.Common.{refl, arith}
-use Rattle.transactions.specs.Slots.{added_in}
-use Rattle.store.proofs.Runs.{changed}
-use Rattle.store.proofs.Steps.{put-out}
+use Rattle.std.proofs.Common.{refl, ◌∙◌}
+use Rattle.transactions.specs.Slots.{wrote, write_refused}
+use Rattle.store.proofs.Runs.{turned, not-turned}
 use Rattle.store.proofs.state.Tables.add.Goals as goal
 
-pub returns-then-slot-lt-SLOTS : goal.returns-then-slot-lt-SLOTS
-returns-then-slot-lt-SLOTS c = (changed (added_in c.args.entry) c.args.self.now.slots c.args.slot _ c.added.result (omega (arith, c.args.self.now.all)) c.added.ensures, refl, refl, refl)
+pub returns-in-Ok : goal.returns-in-Ok
+returns-in-Ok c =
+    let p = c.put.ensures in
+    (p.0 ∙ turned (wrote c.args.entry) write_refused c.args.self.now.slots c.args.slot c.slot.result c.in-Ok.added c.slot.ensures c.in-Ok.ensures, p.1, p.2, p.3)
 
-pub returns-else-slot-lt-SLOTS : goal.returns-else-slot-lt-SLOTS
-returns-else-slot-lt-SLOTS c = (put-out c.args.self.now.slots c.args.slot _ (omega (arith, c.args.self.now.all, c.if-slot-lt-SLOTS.false)), refl, refl, refl)
+pub returns-in_default : goal.returns-in_default
+returns-in_default c = (not-turned (wrote c.args.entry) write_refused c.args.self.now.slots c.args.slot c.slot.result c.in_default.field-0 c.slot.ensures c.in_default.ensures, refl, refl, refl)

@@ -1,15 +1,16 @@
-use Rattle.std.proofs.Common.{sym, ◌∙◌}
+use Rattle.std.proofs.Common.{sym, ap, ◌∙◌}
+use Rattle.transactions.specs.Slots.{run_in}
 use Rattle.transactions.specs.Transactions.{model_of}
 use Rattle.history.proofs.Lists.{none_some}
 use Rattle.store.proofs.Runs.{idle-told, going-told}
 use Rattle.store.proofs.Steps.{commit-goes}
 use Rattle.store.proofs.state.Tables.commit.Goals as goal
 
-pub returns-in-Idle : goal.returns-in-Idle
-returns-in-Idle c = λ e snd fit free.
-    absurd (none_some (sym (idle-told e _ _ _ _ fit c.args.slot c.in-Idle.ensures) ∙ (commit-goes e c.args.slot free).1))
+pub returns-in_err-t : goal.returns-in_err-t
+returns-in_err-t c = λ e snd fit free.
+    absurd (none_some (sym (idle-told e _ _ _ _ fit c.args.slot (sym (ap run_in c.in_err-t.ensures.0) ∙ c.slot.ensures)) ∙ (commit-goes e c.args.slot free).1))
 
-pub returns-in-Active : goal.returns-in-Active
-returns-in-Active c = λ e snd fit free.
-    let x = going-told e _ _ _ _ fit c.args.slot (model_of c.in-Active.t) c.in-Active.ensures in
+pub returns : goal.returns
+returns c = λ e snd fit free.
+    let x = going-told e _ _ _ _ fit c.args.slot (model_of c.in_ok-t.t) (sym (ap run_in c.in_ok-t.ensures) ∙ c.slot.ensures) in
     c.commit_by.ensures e x.0 snd fit x.1 x.2 free

@@ -1,11 +1,12 @@
-use Rattle.std.proofs.Common.{refl, arith}
-use Rattle.transactions.specs.Slots.{noted_in}
-use Rattle.store.proofs.Runs.{changed}
-use Rattle.store.proofs.Steps.{put-out}
+use Rattle.std.proofs.Common.{refl, ◌∙◌}
+use Rattle.transactions.specs.Slots.{read, read_refused}
+use Rattle.store.proofs.Runs.{turned, not-turned}
 use Rattle.store.proofs.state.Tables.note.Goals as goal
 
-pub returns-then-slot-lt-SLOTS : goal.returns-then-slot-lt-SLOTS
-returns-then-slot-lt-SLOTS c = (changed (noted_in c.args.from c.args.to c.args.at) c.args.self.now.slots c.args.slot _ c.noted.result (omega (arith, c.args.self.now.all)) c.noted.ensures, refl, refl, refl)
+pub returns-in-Ok : goal.returns-in-Ok
+returns-in-Ok c =
+    let p = c.put.ensures in
+    (p.0 ∙ turned (read c.args.from c.args.to c.args.at) read_refused c.args.self.now.slots c.args.slot c.slot.result c.in-Ok.noted c.slot.ensures c.in-Ok.ensures, p.1, p.2, p.3)
 
-pub returns-else-slot-lt-SLOTS : goal.returns-else-slot-lt-SLOTS
-returns-else-slot-lt-SLOTS c = (put-out c.args.self.now.slots c.args.slot _ (omega (arith, c.args.self.now.all, c.if-slot-lt-SLOTS.false)), refl, refl, refl)
+pub returns-in_default : goal.returns-in_default
+returns-in_default c = (not-turned (read c.args.from c.args.to c.args.at) read_refused c.args.self.now.slots c.args.slot c.slot.result c.in_default.field-0 c.slot.ensures c.in_default.ensures, refl, refl, refl)

@@ -26,7 +26,7 @@ invariant_of-self c =
     let on : is_loading c.args.self.now.stage ≡ true = sym c.if-not-is_loading.ensures in
     record {
       led = λ p. absurd (ready-not_loading c.args.self.now.stage p on);
-      filled = λ p. ∥∥₁_elim (c.args.self.now.filled p) ∥∥₁_prop (λ so. ∣ still_filled _ c.args.self.now.tables.now c.replay-found.new.tables c.replay-found.result c.replay-found.ensures.commits so ∣₁);
+      filled = λ p. ∥∥₁_elim (c.args.self.now.filled p) ∥∥₁_prop (λ so. ∣ still_filled _ c.args.self.now.tables.now c.replay-found.new.self c.replay-found.result c.replay-found.ensures.commits so ∣₁);
     }
 
 pub note-requires : goal.note-requires
@@ -49,9 +49,9 @@ returns c =
     record {
       reads = λ bs reads. (
         reads.0,
-        reads_more bs c.args.piece.now c.args.reader.now c.take.new.self _ c.args.self.now.tables.now c.replay-found.new.tables c.replay-found.result _ refl reads.1 none
+        reads_more bs c.args.piece.now c.args.reader.now c.take.new.self _ c.args.self.now.tables.now c.replay-found.new.self c.replay-found.result _ refl reads.1 none
             took.0 took.1 took.2
-            (subst (λ (l : List ℕ). Replays l c.args.self.now.tables.now c.replay-found.new.tables c.replay-found.result) c.left.ensures c.replay-found.ensures.commits)
+            (subst (λ (l : List ℕ). Replays l c.args.self.now.tables.now c.replay-found.new.self c.replay-found.result) c.left.ensures c.replay-found.ensures.commits)
             c.note.ensures,
       );
       else_nothing = (refl, λ off. absurd (reads_on (is_loading c.args.self.now.stage) (is_some c.args.reader.now.flaw) on none off));

@@ -1,14 +1,12 @@
-use Rattle.std.proofs.Common.{refl, ◌∙◌}
-use Rattle.versions.specs.Chain.{links}
-use Rattle.versions.proofs.Places.{listed_cleared, sound_cleared}
+use Rattle.versions.specs.Words.{lent_by}
+use Rattle.versions.proofs.Places.{listed_cleared, sound_cleared, fits_cleared}
 use Rattle.versions.proofs.chains.Chains.clear.Goals as goal
 
-pub returns : goal.returns
-returns c =
+pub invariant_of-self : goal.invariant_of-self
+invariant_of-self c =
     let s = c.args.self.now in
-    let w = links c.zero.new.s s.next.now s.number.now s.value.now in
-    record {
-      good = sound_cleared w c.zero.ensures s.room (c.requires.0, (λ h. c.zero.auto.s ∙ c.requires.1 h), c.requires.2, c.requires.3, c.requires.4);
-      room = refl;
-      views = listed_cleared w c.zero.ensures;
-    }
+    let h = c.clear.ensures in
+    record { good = sound_cleared (lent_by c.clear.new.self) _ h.heads s.room (fits_cleared s.words c.clear.new.self s.room h.heads h.rest s.good.0) }
+
+pub returns-clause-views : goal.returns-clause-views
+returns-clause-views c = listed_cleared (lent_by c.clear.new.self) _ c.clear.ensures.heads

@@ -1,43 +1,50 @@
-use Rattle.std.proofs.Common.{◌≡◌, ◌+◌, ◌-◌, true, false, drop, sym, refl, ◌∙◌, arith}
-use Rattle.model.specs.Versions.{keys_of}
+use Rattle.std.proofs.Common.{◌≡◌, ◌+◌, true, false, get_or, drop, sym, ap, ◌∙◌, arith}
+use Rattle.std.proofs.lemmas.List.{take_rest}
+use Rattle.model.specs.Transactions.{names}
+use Rattle.versions.specs.declared.chains.Chains.{Chains}
 use Rattle.versions.specs.Lent.{view}
-use Rattle.versions.proofs.Named.{inside-at, keys_end, keys-part, keys_step, commit-none, commit-step}
+use Rattle.versions.proofs.Named.{none, keys_end, keys_step, commit-step}
 use Rattle.versions.proofs.chains.Chains.commit.Goals as goal
+use Rattle.versions.proofs.chains.Chains.commit.Goals.{then-not-writes_key, else-not-writes_key, After-writes_key}
 
-pub loop-i-init : goal.loop-i-init
-loop-i-init c =
-    (c.requires.good, refl, omega (arith, keys_end c.args.writes.now), λ k. sym (commit-none c.args.number c.args.writes.now k (view c.args.self.now k)))
+-- whether a later write is of the same key
+later : (c : After-writes_key) → c.writes_key.result ≡ names (get_or c.args.writes.now c.loop-i.i none).key (drop (c.loop-i.i + 1) c.args.writes.now)
+later c = c.writes_key.ensures ∙ ap (names (get_or c.args.writes.now c.loop-i.i none).key) (take_rest c.args.writes.now (c.loop-i.i + 1))
 
-pub add-requires : goal.add-requires
-add-requires c =
+pub add-requires-clause-room : goal.add-requires-clause-room
+add-requires-clause-room c =
     let es = c.args.writes.now in
     let i = c.loop-i.i in
-    let more : keys_of (drop (i - 1) es) ≡ keys_of (drop i es) + 1 = keys_step es i c.loop-i-test.true c.loop-i.auto.i false c.if-not-named.ensures in
-    record {
-      good = c.loop-i.invariant.0;
-      key = inside-at es (i - 1) c.requires.keys (omega (arith, c.loop-i-test.true, c.loop-i.auto.i));
-      room = omega (arith, more, keys-part es (i - 1), c.loop-i.invariant.1, c.loop-i.invariant.2, c.requires.room);
-    }
-
-pub loop-i-preserved-then-not-named : goal.loop-i-preserved-then-not-named
-loop-i-preserved-then-not-named c =
-    let es = c.args.writes.now in
-    let i = c.loop-i.i in
-    let more : keys_of (drop (i - 1) es) ≡ keys_of (drop i es) + 1 = keys_step es i c.loop-i-test.true c.loop-i.auto.i false c.if-not-named.ensures in (
-      c.add.ensures.good,
-      c.add.ensures.room ∙ c.loop-i.invariant.1,
-      omega (arith, c.add.ensures.count, more, c.loop-i.invariant.2),
-      λ k. c.add.ensures.views k
-          ∙ commit-step es i c.loop-i-test.true c.loop-i.auto.i false c.if-not-named.ensures c.args.number k (view c.args.self.now k) (view c.loop-i.self k) (c.loop-i.invariant.3 k),
-    )
+    let step = keys_step es i c.loop-i-test.true false (sym c.if-not-writes_key.true ∙ later (goal.at.add-requires-clause-room c).After-writes_key) in
+    omega (arith, step, c.loop-i.invariant.0, c.loop-i.invariant.1, c.requires.room)
 
 pub loop-i-preserved : goal.loop-i-preserved
 loop-i-preserved c =
     let es = c.args.writes.now in
     let i = c.loop-i.i in
-    let same : keys_of (drop (i - 1) es) ≡ keys_of (drop i es) = keys_step es i c.loop-i-test.true c.loop-i.auto.i true c.if-not-named.ensures in (
-      c.loop-i.invariant.0,
-      c.loop-i.invariant.1,
-      omega (arith, same, c.loop-i.invariant.2),
-      λ k. commit-step es i c.loop-i-test.true c.loop-i.auto.i true c.if-not-named.ensures c.args.number k (view c.args.self.now k) (view c.loop-i.self k) (c.loop-i.invariant.3 k),
-    )
+    let n = c.args.number in
+    let told = later (goal.at.loop-i-preserved c).After-writes_key in
+    let so = c.loop-i.invariant in
+    elim c.if-not-writes_key.branch [
+      | then-not-writes_key w ↦
+          let same = sym w.if-not-writes_key.true ∙ told in
+          let step = keys_step es i c.loop-i-test.true false same in
+          let count = ap (λ (s : Chains). s.count) w.self-is in (
+            ap (λ (s : Chains). s.room) w.self-is ∙ w.add.ensures.room ∙ so.0,
+            omega (arith, count, w.add.ensures.count, step, so.1),
+            λ k. ap (λ (s : Chains). view s k) w.self-is ∙ w.add.ensures.views k
+                ∙ commit-step es i c.loop-i-test.true false same n k (view c.args.self.now k) (view c.loop-i.self k) (so.2 k),
+          )
+      | else-not-writes_key w ↦
+          let same = sym w.if-not-writes_key.false ∙ told in
+          let step = keys_step es i c.loop-i-test.true true same in
+          let count = ap (λ (s : Chains). s.count) w.self-is in (
+            ap (λ (s : Chains). s.room) w.self-is ∙ so.0,
+            omega (arith, count, step, so.1),
+            λ k. ap (λ (s : Chains). view s k) w.self-is
+                ∙ commit-step es i c.loop-i-test.true true same n k (view c.args.self.now k) (view c.loop-i.self k) (so.2 k),
+          )
+    ]
+
+pub returns-clause-count : goal.returns-clause-count
+returns-clause-count c = omega (arith, keys_end c.args.writes.now c.loop-i.i c.loop-i-test.false, c.loop-i.invariant.1)

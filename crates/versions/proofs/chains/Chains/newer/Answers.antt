@@ -11,8 +11,8 @@ returns-then-place-ne0 c =
     let s = c.args.self.now in
     let p = c.head-place.result in
     let pos : 0 < c.head-place.result = omega (arith, c.if-place-ne0.true) in
-    let low : c.head-place.result ≤ c.args.self.now.count = omega (arith, c.head-place.ensures, c.requires.3 c.args.key) in
-    sym (newer-here (inside s) s.count c.requires.2 p pos low c.args.begin)
+    let low : c.head-place.result ≤ c.args.self.now.count = omega (arith, c.head-place.ensures, c.args.self.now.good.3 c.args.key) in
+    sym (newer-here (inside s) s.count c.args.self.now.good.2 p pos low c.args.begin)
     ∙ ap (λ q. newer c.args.begin (chain (inside s) q)) c.head-place.ensures
 
 pub returns-else-place-ne0 : goal.returns-else-place-ne0

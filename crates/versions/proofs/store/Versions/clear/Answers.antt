@@ -4,11 +4,10 @@ use Rattle.versions.proofs.Sums.{total-none}
 use Rattle.versions.proofs.Moments.{nothing_yet}
 use Rattle.versions.proofs.store.Versions.clear.Goals as goal
 
-pub returns : goal.returns
-returns c =
-    record {
-      none = c.clear.ensures.views;
-      size = total-none (view c.clear.new.self) c.clear.ensures.views;
-      spaces = c.clear.ensures.room;
-      history = λ floor k lt. c.clear.ensures.views k ∙ sym (nothing_yet k floor);
-    }
+pub returns-clause-size : goal.returns-clause-size
+returns-clause-size c =
+    total-none (view c.clear.new.self) c.clear.ensures.views
+
+pub returns-clause-history : goal.returns-clause-history
+returns-clause-history c =
+    λ floor k lt. c.clear.ensures.views k ∙ sym (nothing_yet k floor)

@@ -4,11 +4,7 @@ use Rattle.versions.specs.Store.{held}
 use Rattle.versions.proofs.Sums.{total-same}
 use Rattle.versions.proofs.store.Versions.count.Goals as goal
 
-pub returns : goal.returns
-returns c =
+pub returns-clause-history : goal.returns-clause-history
+returns-clause-history c =
     let v = c.args.self.now in
-    record {
-      count = sym v.good.4;
-      bound = v.good.1;
-      history = λ done floor h. sym v.good.4 ∙ total-same (held v) (λ k. swept floor (versions k done)) h;
-    }
+    λ done floor h. sym v.chains.good.4 ∙ total-same (held v) (λ k. swept floor (versions k done)) h

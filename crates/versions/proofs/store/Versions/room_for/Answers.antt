@@ -24,7 +24,7 @@ returns c =
     let v = c.args.self.now in
     let es = c.args.writes.now in
     let value : leb c.versions_of.result (c.args.self.now.chains.room - c.args.self.now.chains.count) ≡ leb (size c.args.self.now + keys_of c.args.writes.now) (spaces c.args.self.now)
-    = fits c.versions_of.result (keys_of es) v.chains.count (size v) v.chains.room c.versions_of.ensures v.good.4 v.good.1 in
+    = fits c.versions_of.result (keys_of es) v.chains.count (size v) v.chains.room c.versions_of.ensures v.chains.good.4 v.chains.good.1 in
     let t = told v es _ value in
     record { value = value; enough = t.0; history = t.1 }
 
@@ -32,6 +32,6 @@ pub returns-then-writes-free : goal.returns-then-writes-free
 returns-then-writes-free c =
     let v = c.args.self.now in
     let es = c.args.writes.now in
-    let value : true ≡ room_for v es = sym (le-leb (size v + keys_of es) (spaces v) (omega (arith, keys-few es, v.good.4, v.good.1))) in
+    let value : true ≡ room_for v es = sym (le-leb (size v + keys_of es) (spaces v) (omega (arith, keys-few es, v.chains.good.4, v.chains.good.1))) in
     let t = told v es true value in
     record { value = value; enough = t.0; history = t.1 }
