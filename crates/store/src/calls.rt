@@ -71,6 +71,7 @@ fn check_abort(slot: Slot) -> Result<(), Refusal>
     Ok(())
 }
 
+// A read and a write differ in what they ask the transaction; one function for both would take a closure for that line.
 fn check_read(slot: Slot) -> Result<(), Refusal>
     ensures { refusal_in result ≡ read_refused (run_of slot) }
 {

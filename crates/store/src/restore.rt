@@ -62,7 +62,8 @@ impl Tables<'_, '_> {
         ensures inside { EndsIn bytes.now result }
     {
         let mut writes = [Entry::default(); 64];
-        // records differ in size, so the place is counted
+        // records differ in size, so the place is counted; one loop for this and for the survey of a journal would take a
+        // closure, and a clause on what that does to the tables
         let mut at = 0;
         loop {
             let next = self.commits;

@@ -6,7 +6,8 @@ use std::alloc::Global;
 use transactions::Slot;
 use versions::Versions;
 
-// Within a commit they are no engine's, so each call says what they stand for, and `Store` keeps it.
+// Within a commit the tables are no engine's, so each call says which engine they stand for, and `Store` keeps that there is
+// one.
 #[derive(Drop)]
 pub struct Tables<'s, 'a> {
     pub heap: Global,

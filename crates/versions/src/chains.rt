@@ -48,7 +48,7 @@ impl Chains<'_> {
     }
 
     // What somebody is shown at the key for whom the first at commits are done: a walk from place to place, left at the first
-    // that was there.
+    // version that was there by then.
     pub fn shown(&self, key: usize, at: u32) -> u32
         ensures { result ≡ shown at (view self.now key) }
     {
@@ -81,7 +81,8 @@ impl Chains<'_> {
         writes.iter().any(|w| self.newer(w.key as usize, begin))
     }
 
-    // One version more in front of the key's.
+    // One version more in front of the key's. Each clause names the bound of the key: a type for keys would be taken apart at
+    // each slice.
     pub fn add(&mut self, key: usize, number: u32, value: u32)
         requires key { key < 4096 }
         requires room { self.old.count < self.old.room }

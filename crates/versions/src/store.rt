@@ -6,7 +6,8 @@ use crate::spare::Spare;
 
 mod calls;
 
-// The versions of all keys. Over slices of other lengths than they should have there is no room for any.
+// The versions of all keys. Over slices of other lengths than they should have there is no room for any. Both sets have the
+// same room, so each step of either says that it leaves it.
 #[derive(Drop)]
 pub struct Versions<'a> {
     chains: Chains<'a>,

@@ -20,7 +20,8 @@ impl<'p> Lineup<'p> {
         })
     }
 
-    // Whether number j is left and has to stand before number i.
+    // Whether number j is left and has to stand before number i. The numbers come from one loop over the commits, so each step
+    // asks for the bound.
     fn holds_up(&self, i: usize, j: usize) -> bool
         requires within { i < length self.now.pasts.now }
         requires within_too { j < length self.now.pasts.now }
