@@ -1,7 +1,7 @@
 -- Loops over what is kept, seen as marks.
-use Rattle.std.proofs.Common.{◌≡◌, ℕ, ◌+◌, ◌<◌, ◌≤◌, Bool, true, false, not, cond, leb, List, [], ◌∷◌, ◌++◌, map, length, get_or, take, drop, set, Some, None, sym, refl, ap, ◌∙◌, option_map, unwrap_or, Option, ⊎_elim, one-add, arith}
+use Rattle.std.proofs.Common.{◌≡◌, ℕ, ◌+◌, ◌-◌, ◌<◌, ◌≤◌, Bool, true, false, not, cond, leb, List, [], ◌∷◌, ◌++◌, map, length, get_or, take, drop, set, Some, None, sym, refl, ap, ◌∙◌, option_map, unwrap_or, Option, ⊎_elim, one-add, arith}
 use Rattle.std.specs.List.{position, position_or_len, find}
-use Rattle.std.proofs.lemmas.List.{length-map, map-set, get_or-map, take_all, drop_all, append-nil}
+use Rattle.std.proofs.lemmas.List.{length-map, map-set, get_or-map, take_all, drop_all, append-nil, take_at, length-drop}
 use Rattle.std.proofs.lemmas.List.Edits.{map_over_more}
 use Rattle.std.proofs.lemmas.List.Sums.{prefix_len-le-length}
 use Rattle.std.proofs.lemmas.Bool.{lt-ltb, le-ltb, lt-leb, le-leb, cases_lt}
@@ -71,3 +71,7 @@ module _ {X Y : Type 0} (p : Y → Bool) (f : X → Y) where
 
   pub lowest_map : (num : Y → ℕ) (xs : List X) → lowest num p (map f xs) ≡ lowest (λ x. num (f x)) (λ x. p (f x)) xs
   lowest_map num xs = ap (option_map num) (find_map xs) ∙ map_both num f (find (λ x. p (f x)) xs)
+
+-- turned to the left by i and cut behind, the first i are gone
+pub cut-front : {X : Type 0} (xs : List X) (i : ℕ) → take (length xs - i) (drop i xs ++ take i xs) ≡ drop i xs
+cut-front xs i = take_at (drop i xs) (take i xs) (length xs - i) (length-drop i xs)

@@ -1,17 +1,18 @@
 -- Those in front whose numbers are below a begin: who began there saw them, and they do not count.
-use Rattle.std.proofs.Common.{◌≡◌, ℕ, zero, suc, ◌-◌, ◌<◌, ◌≤◌, Bool, true, false, ltb, cond, ◌&&◌, ◌||◌, List, [], ◌∷◌, ◌++◌, map, length, get_or, take, drop, is_some, Some, sym, refl, ap, ◌∙◌, subst, arith}
+use Rattle.std.proofs.Common.{◌≡◌, ℕ, zero, suc, ◌-◌, ◌<◌, ◌≤◌, Bool, true, false, ltb, cond, ◌&&◌, ◌||◌, List, [], ◌∷◌, ◌++◌, map, length, get_or, take, drop, is_some, unwrap_or, reverse, Some, None, sym, refl, ap, ◌∙◌, subst, arith}
 use borrow.Rule.Slice.PartMut.{put_mid}
-use Rattle.std.specs.List.{AllWithin}
+use Rattle.std.specs.List.{AllWithin, position, position_or_len}
 use Rattle.std.specs.List.Sorted.{IsNonDecreasingBy}
-use Rattle.std.proofs.lemmas.List.{drop-map, map_push, map-append, get_or-map, length-map, take_rest, drop_all, append-nil, length-drop}
+use Rattle.std.proofs.lemmas.List.{drop-map, map_push, map-append, get_or-map, length-map, take_rest, drop_all, append-nil, length-drop, length-reverse, get_or-reverse}
+use Rattle.std.proofs.lemmas.List.Sums.{fails_before_first, passes_at_first}
 use Rattle.std.proofs.lemmas.Simd.{map-map}
 use Rattle.std.proofs.lemmas.List.Sorted.{IsNonDecreasingBy-drop}
-use Rattle.std.proofs.lemmas.Bool.{lt-leb, ltb-true}
+use Rattle.std.proofs.lemmas.Bool.{lt-leb, lt-ltb, ltb-true, ltb-false}
 use Rattle.model.specs.Lists.{any}
 use Rattle.model.specs.Transactions.{Txn, reads_some}
 use Rattle.conflicts.specs.declared.window.Committed.{Committed}
 use Rattle.conflicts.specs.Marks.{Mark, lowest, since, mark_of, mark_number, is_passed, is_passing, turns, would_pivot, remarked, new_mark, taken_in}
-use Rattle.conflicts.specs.Rising.{number_of, Rise, FrontBelow}
+use Rattle.conflicts.specs.Rising.{number_of, Rise, FrontBelow, RestFrom}
 use Rattle.conflicts.proofs.Bools.{since-not}
 use Rattle.conflicts.proofs.Firsts.{some_lowest, lowest_step}
 
@@ -34,6 +35,42 @@ pub front_below : (b : ℕ) (cs : List Committed) (r : ℕ) → AllWithin (λ (c
 front_below b cs zero h = tt
 front_below b [] (suc r) h = tt
 front_below b (c ∷ cs) (suc r) h = (ltb-true c.number b (h 0 c (omega arith) (omega arith)), front_below b cs r (λ k d l m. h (suc k) d (omega arith) (omega arith)))
+
+-- the last with a number below b, looked for from the end, parts those below b from the others
+module _ (b : ℕ) (cs : List Committed) where
+  abbrev below : Committed → Bool
+  below c = ltb c.number b
+
+  abbrev behind : ℕ
+  behind = position_or_len (λ (c : Committed). ltb c.number b) (reverse cs)
+
+  counted : (x : Bool) → ltb behind (length (reverse cs)) ≡ x → length cs - unwrap_or (cond x (Some behind) None) (length cs) ≡ length cs - behind
+  counted true e = refl
+  counted false e = omega (arith, ltb-false behind (length (reverse cs)) e, length-reverse cs)
+
+  counted_back : length cs - unwrap_or (position below (reverse cs)) (length cs) ≡ length cs - behind
+  counted_back = counted (ltb behind (length (reverse cs))) refl
+
+  seen_front : IsNonDecreasingBy number_of cs → FrontBelow b (length cs - behind) cs
+  seen_front up =
+      front_below b cs (length cs - behind) (λ i d l m.
+      let here = passes_at_first below (reverse cs) d (omega (arith, length-reverse cs)) in
+      let last = ltb-true (number_of (get_or (reverse cs) behind d)) b here in
+      let same = ap number_of (get_or-reverse cs behind d (omega arith)) in
+      lt-ltb (number_of (get_or cs i d)) b (omega (arith, last, same, up i (length cs - 1 - behind) d (omega arith) (omega arith))))
+
+  unseen_rest : RestFrom b (length cs - behind) cs
+  unseen_rest i d l m =
+      let j = length cs - 1 - i in
+      let e : length cs - 1 - j ≡ i = omega arith in
+      let there = fails_before_first below (reverse cs) j d (omega arith) in
+      let same = ap number_of (get_or-reverse cs j d (omega arith) ∙ ap (λ k. get_or cs k d) e) in
+      subst (λ n. b ≤ n) same (ltb-false (number_of (get_or (reverse cs) j d)) b there)
+
+  pub parted_back : IsNonDecreasingBy number_of cs → (r : ℕ) → r ≡ length cs - unwrap_or (position (λ c. ltb c.number b) (reverse cs)) (length cs) → (r ≤ length cs) × FrontBelow b r cs × RestFrom b r cs
+  parted_back up r e =
+      let at : r ≡ length cs - behind = e ∙ counted_back in
+      (omega arith, subst (λ k. FrontBelow b k cs) (sym at) (seen_front up), subst (λ k. RestFrom b k cs) (sym at) unseen_rest)
 
 module _ (t : Txn) (m : Mark) (l : m.number < t.begin) where
   not-passed : is_passed t m ≡ false

@@ -1,14 +1,18 @@
 // The text of an answer. No `Display`: that answers `fmt::Error`, so it could not promise that an answer without text never
 // fails, and a reply is a `Result`, which can have no `impl` here.
-ghost use Rattle.std.specs.Prelude.{◌≡◌, ◌≤◌, [], ◌∷◌, ◌++◌, length, decimal, OnErr, OnOk};
+ghost use Rattle.std.specs.Prelude.{◌≡◌, [], ◌∷◌, ◌++◌, codes, decimal, OnErr, OnOk};
 ghost use Rattle.lines.specs.Laws.{OneLine};
 ghost use Rattle.lines.specs.Said.{counts_text, refusal_text, text_of, pair, pairs, Refusable};
 
 use crate::output::Text;
 use arrayvec::ArrayString;
-use itoa::Buffer;
+use itoa::{Buffer, write_digits};
 use model::{Answer, Counts, Entry, Refusal, Reply};
 use std::alloc::AllocError;
+use std::str;
+
+// The most bytes of an entry's text.
+const PAIR: usize = 21;
 
 // Writes the text of the reply behind what stands in `out`. One without text is not refused.
 #[tactic(auto, using(crate::proofs::Lined::one_line))]
@@ -83,13 +87,18 @@ fn say_entries<T: Text>(out: &mut T, entries: &[Entry]) -> Result<(), AllocError
 
 // The entry as K=V, behind what parts it from the one before.
 fn say_entry<T: Text>(out: &mut T, separator: &str, e: Entry) -> Result<(), AllocError>
-    requires { length separator.now ≤ 1 }
     ensures { OnOk result (T.bytes out.new ≡ T.bytes out.old ++ pair separator.now e) }
 {
-    let mut text = ArrayString::<22>::new();
-    text.push_str(separator);
-    text.push_str(Buffer::new().format(e.key));
-    text.push('=');
-    text.push_str(Buffer::new().format(e.value));
-    out.append(text.as_str())
+    out.append(separator)?;
+    out.append(spell_pair(e, &mut [0; PAIR]))
+}
+
+// `K=V`, put down from its end, so that an entry is copied once.
+fn spell_pair(e: Entry, text: &mut [u8; PAIR]) -> &str
+    ensures { result.now ≡ decimal e.key ++ (codes "=" ++ decimal e.value) }
+{
+    let at = write_digits(e.value as u64, text, PAIR) - 1;
+    text[at] = b'=';
+    let at = write_digits(e.key as u64, text, at);
+    unsafe { str::from_utf8_unchecked(&text[at..]) }
 }

@@ -116,6 +116,9 @@ impl LineBuffer {
     fn clear(&mut self)
         ensures { Holds self.new [] }
     {
-        self.line = Some(ArrayVec::new());
+        match &mut self.line {
+            Some(line) => line.clear(),
+            None => self.line = Some(ArrayVec::new()),
+        }
     }
 }

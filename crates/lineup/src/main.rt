@@ -7,6 +7,7 @@ use anyhow::anyhow;
 use conversation::converse;
 use desk::Desk;
 use serial_runs::{Runs, say_order};
+use std::fmt;
 use std::io::Write;
 use std::process::ExitCode;
 use store::{Store, Tables};
@@ -40,7 +41,7 @@ fn tell(rt: &HostRuntime, runs: &Runs) -> anyhow::Result<()> {
         .line()
         .map_err(|_| anyhow!("no memory for the serial order"))?;
     let mut text = String::new(rt.alloc());
-    say_order(&mut text, &order)?;
+    say_order(&mut text, &order).map_err(|_| fmt::Error)?;
     rt.stdout().write_all(text.as_bytes())?;
     Ok(())
 }

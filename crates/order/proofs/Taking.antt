@@ -1,5 +1,5 @@
 -- Commits are taken one by one by what is marked of each.
-use Rattle.std.proofs.Common.{◌≡◌, ℕ, zero, suc, ◌+◌, ◌<◌, ◌≤◌, Bool, true, false, not, ◌&&◌, eqb, ◌⊎◌, List, [], ◌∷◌, ◌++◌, map, length, get_or, set, replicate, vec_items, is_some, is_none, Some, None, Option, sym, refl, ap, ◌∙◌, subst, inl, inr, ⊎_elim, add-zero, add_assoc, one-add, arith, unwrap_or, IfSome, cond, ◌-◌}
+use Rattle.std.proofs.Common.{◌≡◌, ℕ, zero, suc, ◌+◌, ◌<◌, ◌≤◌, Bool, true, false, not, ◌&&◌, eqb, ◌⊎◌, List, [], ◌∷◌, ◌++◌, map, length, get_or, set, replicate, vec_items, is_some, is_none, Some, None, Option, sym, refl, ap, ◌∙◌, subst, inl, inr, ⊎_elim, add-zero, add_assoc, one-add, arith, unwrap_or, IfSome, cond, ◌-◌, max}
 use Rattle.std.specs.List.{range_with_len, find}
 use Rattle.std.proofs.lemmas.List.{append-nil, append_assoc, length-map, length-set, map-set, length-replicate, get_or-replicate, get_or-set_same, get_or-set_other}
 use Rattle.std.proofs.Math.Seq.{map-set_same}
@@ -10,7 +10,7 @@ use Rattle.model.specs.Transactions.{Txn}
 use Rattle.order.specs.declared.past.Past.{Past}
 use Rattle.order.specs.Order.{stands_before, commit_at, blocked, first_free, without, then_those, lined, line, AllSerial}
 use Rattle.order.specs.Past.{past_of}
-use Rattle.order.specs.Taking.{gone_of, left_of, holds_up, NoneBelow, is_free, Compared, Taken}
+use Rattle.order.specs.Taking.{gone_of, left_of, holds_up, NoneBelow, is_free, Compared, Front, Taken}
 use Rattle.order.specs.declared.lineup.Lineup.{Lineup}
 use Rattle.order.specs.Lineup.{commits_of, left_in, Starts, Compares, Took}
 use Rattle.order.proofs.Members.{In, Asc, in_kept, kept_in, kept-all, kept-kept, in_counting, counting_in, asc-counting, asc-kept, any-from, none_any, low_is, low-none, low_in, to_front}
@@ -156,6 +156,40 @@ module _ (p : ℕ → Bool) where
         go : (q : Option ℕ) → IfSome q (λ c. (a ≤ c) × (c < a + (n - a)) × (p c ≡ true)) → IfSome q (λ c. (c < n) × (p c ≡ true))
         go None h = tt
         go (Some c) h = (omega (arith, h.0, h.1), h.2)
+
+    pub next_most : unwrap_or o n ≤ n
+    next_most = go o next_here
+      where
+        go : (q : Option ℕ) → IfSome q (λ c. (c < n) × (p c ≡ true)) → unwrap_or q n ≤ n
+        go None h = omega arith
+        go (Some c) h = omega (arith, h.0)
+
+-- what is taken in front is not free, and holds nobody up
+module _ (cs : List (Option ℕ)) (f : ℕ) (h : Front f cs) where
+  gone-front : (j : ℕ) → j < f → not (get_or (gone_of cs) j true) ≡ false
+  gone-front j l = open_is cs j ∙ ap is_some (h j l)
+
+  pub passed_front : (done : List Txn) → Passed done (gone_of cs) f
+  passed_front done j l = ap (λ b. b && not (blocked done (left_of (gone_of cs)) j)) (gone-front j l)
+
+  pub none_front : (done : List Txn) (i c m : ℕ) → m ≡ max f c → NoneBelow done (gone_of cs) i c → NoneBelow done (gone_of cs) i m
+  none_front done i c m e n j l =
+      ⊎_elim (λ k. ap (λ b. b && stands_before (commit_at done j) (commit_at done i)) (gone-front j k)) (λ k. n j (omega (arith, e))) (cases_lt j f)
+
+  pub front_more : get_or cs f None ≡ None → Front (f + 1) cs
+  front_more e j l = ⊎_elim (λ q. ap (λ k. get_or cs k None) q ∙ e) (λ q. h j (omega (arith, q))) (cases_eq j f)
+
+  -- a change at i, which is left, or is taken now
+  pub front_on : (i b : ℕ) (v : Option ℕ) → get_or cs i None ≡ Some b → Front f (set cs i v)
+  front_on i b v e j l =
+      ⊎_elim (λ q. let z : None ≡ Some b = sym (h j l) ∙ ap (λ k. get_or cs k None) q ∙ e in absurd_some z) (λ q. get_or-set_other cs i j v None q ∙ h j l) (cases_eq j i)
+    where
+      absurd_some : {X : Type 0} → None ≡ Some b → X
+      absurd_some z = let y : ◌≡◌ {A = ℕ} 0 1 = cc in absurd (omega arith)
+
+  pub front_taken : (i : ℕ) → i < length cs → Front f (set cs i None)
+  front_taken i lt j l =
+      ⊎_elim (λ q. ap (λ k. get_or (set cs i None) k None) q ∙ get_or-set_same cs i None None lt) (λ q. get_or-set_other cs i j None None q ∙ h j l) (cases_eq j i)
 
 -- the cursors after a change at i
 compared_set : (ps : List Past) (cs : List (Option ℕ)) (i : ℕ) (v : Option ℕ) → i < length ps → Compared ps cs →

@@ -31,6 +31,10 @@ is_free done gone i = not (slice_index_or gone i true) && not (blocked done (lef
 abbrev pub Compared : List Past → List (Option ℕ) → Type 0
 Compared ps cursors = (length cursors ≡ length ps) × ((i c : ℕ) → i < length ps → slice_index_or cursors i None ≡ Some c → NoneBelow (map past_of ps) (gone_of cursors) i c)
 
+-- all numbered below f are taken
+abbrev pub Front : ℕ → List (Option ℕ) → Type 0
+Front f cursors = (j : ℕ) → j < f → slice_index_or cursors j None ≡ None
+
 -- from those left l and the order so far o on, n more were taken, which left m and the order p; or none was free any
 -- more, and the line ends there
 abbrev pub Taken : List Txn → ℕ → List ℕ → List ℕ → List ℕ → List ℕ → Bool → Type 0

@@ -206,7 +206,9 @@ impl Tables<'_, '_> {
     fn end(&mut self, slot: u32)
         ensures { Puts slot idle self.old self.new }
     {
-        self.put(slot, Slot::idle());
+        if let Ok(ended) = self.slot(slot).ended() {
+            self.put(slot, ended);
+        }
     }
 
     fn begin(&mut self, slot: u32, level: Option<Level>)

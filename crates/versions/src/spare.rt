@@ -23,6 +23,7 @@ impl Spare<'_> {
         requires none { view self.old.to key ≡ [] }
         requires room { self.old.to.count + length (swept floor (view from.now key)) ≤ self.old.to.room }
         ensures room { self.new.to.room ≡ self.old.to.room }
+        ensures stack { length self.new.stack.now ≡ length self.old.stack.now }
         ensures views { (k : ℕ) → view self.new.to k ≡ (if nat_eq k key then swept floor (view from.now key) else view self.old.to k) }
     {
         let n = from.kept(key, floor, self.stack);
@@ -39,6 +40,7 @@ impl<'a> Spare<'a> {
         requires { self.old.to.room ≡ chains.old.room }
         ensures room { chains.new.room ≡ chains.old.room }
         ensures spare { self.new.to.room ≡ chains.old.room }
+        ensures stack { length self.new.stack.now ≡ length self.old.stack.now }
         ensures views { (k : ℕ) → view chains.new k ≡ swept floor (view chains.old k) }
     {
         self.to.clear();

@@ -30,7 +30,7 @@ impl Window {
         ensures unseen { self.now.rising ≡ true → RestFrom begin result self.now.all.items }
     {
         if self.rising {
-            self.all.partition_point(|c| c.number < begin)
+            self.all.len() - last_below(&self.all, begin).unwrap_or(self.all.len())
         } else {
             0
         }
@@ -98,7 +98,10 @@ impl Window {
         ensures marks { marks_of self.new ≡ from_floor floor (marks_of self.old) }
         ensures rules { Forgot self.old self.new floor }
     {
+        // `drain` would turn all that goes round as well.
         let gone = first_from(&self.all, floor).unwrap_or(self.all.len());
-        self.all.drain(..gone);
+        let left = self.all.len() - gone;
+        self.all.rotate_left(gone);
+        self.all.truncate(left);
     }
 }

@@ -1,4 +1,4 @@
-ghost use Rattle.std.specs.Prelude.{◌≡◌, Bool, map, nat_le, position, IfOk};
+ghost use Rattle.std.specs.Prelude.{◌≡◌, Bool, map, nat_le, nat_lt, position, reverse, IfOk};
 ghost use Rattle.model.specs.Lists.{any};
 ghost use Rattle.conflicts.specs.Rising.{number_of};
 ghost use Rattle.transactions.specs.Transactions.{model_of};
@@ -94,6 +94,13 @@ pub fn first_from(all: &[Committed], floor: u32) -> Option<usize>
     ensures { result ≡ position (λ (c : Committed). nat_le floor c.number) all.now }
 {
     all.iter().position(|c| c.number >= floor)
+}
+
+// The place, counted from the end, of the last with a number below the floor.
+pub fn last_below(all: &[Committed], floor: u32) -> Option<usize>
+    ensures { result ≡ position (λ (c : Committed). nat_lt c.number floor) (reverse all.now) }
+{
+    all.iter().rev().position(|c| c.number < floor)
 }
 
 // Notes with each that t has committed with this number, which is the caller's to give and no part of t.

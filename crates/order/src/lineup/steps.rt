@@ -16,6 +16,7 @@ impl<'p> Lineup<'p> {
         Ok(Lineup {
             pasts,
             cursors: vec![in heap; Some(0); pasts.len()]?,
+            first: 0,
             order: Vec::with_capacity(heap, pasts.len())?,
         })
     }
@@ -45,10 +46,14 @@ impl<'p> Lineup<'p> {
         ensures told { result ≡ is_free (commits_of self.old) (gone_of self.old.cursors.items) i }
     {
         let Some(from) = self.cursors[i] else {
+            if i == self.first {
+                self.first = i + 1;
+            }
             return false;
         };
+        let from = self.first.max(from as usize);
         let next = self.next_before(i, from);
-        self.cursors[i] = Some(next.unwrap_or(self.pasts.len()));
+        self.cursors[i] = Some(next.unwrap_or(self.pasts.len()) as u32);
         next.is_none()
     }
 
@@ -59,7 +64,7 @@ impl<'p> Lineup<'p> {
         ensures told { result ≡ first_free (commits_of self.old) (left_in self.old) }
         ensures within { IfSome result (λ i. i < length self.old.pasts.now) }
     {
-        for i in 0..self.pasts.len() {
+        for i in self.first..self.pasts.len() {
             if self.is_free(i) {
                 return Some(i);
             }

@@ -1,4 +1,4 @@
-use Rattle.std.proofs.Common.{◌≡◌, ◌≤◌, [], ◌++◌, length, drop}
+use Rattle.std.proofs.Common.{◌≡◌, [], ◌++◌, drop}
 use denote.Text.{Utf8}
 use denote.Shadow.{shadow}
 use Rattle.lines.specs.Said.{pairs}
@@ -6,5 +6,5 @@ use Rattle.lines.proofs.answers.say_entries.Given as goal
 
 abbrev pub invariant-loop-e : goal.invariant-loop-e
 invariant-loop-e g l =
-    shadow (Utf8 l.separator) × (length l.separator ≤ 1)
+    shadow (Utf8 l.separator)
     × (g.T.Text.bytes l.out ++ pairs l.separator (drop l.e-index l.entries) ≡ g.T.Text.bytes l.initial.out ++ pairs [] l.entries)

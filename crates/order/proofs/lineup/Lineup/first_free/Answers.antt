@@ -1,10 +1,15 @@
-use Rattle.std.proofs.Common.{◌≡◌, true, vec_items, ◌∙◌, arith}
+use Rattle.std.proofs.Common.{◌≡◌, true, vec_items, refl, ◌∙◌, arith}
 use Rattle.std.proofs.lemmas.List.{length-map}
 use Rattle.std.proofs.Common.{is_none}
 use Rattle.order.specs.Taking.{gone_of, is_free}
 use Rattle.order.specs.Lineup.{commits_of}
-use Rattle.order.proofs.Taking.{free_same, free_at, free_none}
+use Rattle.order.proofs.Taking.{free_same, free_at, free_none, passed_front}
 use Rattle.order.proofs.lineup.Lineup.first_free.Goals as goal
+
+pub loop-i-init : goal.loop-i-init
+loop-i-init c =
+    let u = c.args.self.now in
+    (record { pasts = refl; gone = refl; order = refl }, passed_front (vec_items u.cursors) u.first u.front (commits_of u))
 
 pub returns-then-is_free-clause-told : goal.returns-then-is_free-clause-told
 returns-then-is_free-clause-told c =

@@ -12,6 +12,7 @@ invariant_of-result c =
     record {
       few = c.requires;
       compared = compared_first n (vec_items c.in_ok-vec.field-0) first ps refl;
+      front = λ j l. absurd (omega arith);
       room = omega (arith, ap length left, length-range_with_len 0 n, c.in_ok-with_capacity.ensures.len, c.in_ok-with_capacity.ensures.capacity);
     }
 

@@ -1,7 +1,7 @@
 use Rattle.std.proofs.Common.{◌≡◌, [], ◌∷◌, ◌++◌, Some, None, vec_items, sym, ap, ◌∙◌, arith, rules}
 use Rattle.order.specs.Order.{first_free}
 use Rattle.order.specs.Lineup.{commits_of, left_in}
-use Rattle.order.proofs.Taking.{taken-one, taken_stuck, compared_taken, first-within, room_left, without_first}
+use Rattle.order.proofs.Taking.{taken-one, taken_stuck, compared_taken, first-within, room_left, without_first, front_taken}
 use Rattle.order.proofs.lineup.Lineup.take_one.Goals as goal
 use Rattle.order.proofs.lineup.Lineup.take_one.Goals.{In-Some}
 
@@ -25,6 +25,7 @@ invariant_of-self c =
     record {
       few = v.few;
       compared = compared_taken v.pasts.now (vec_items v.cursors) i (first-within u v i s e) v.compared;
+      front = front_taken (vec_items v.cursors) v.first v.front i (omega (arith, v.compared.0, first-within u v i s e));
       room = omega (arith, v.room, room_left u v i s e, c.push_reserved.ensures.len, c.push_reserved.ensures.capacity);
     }
 
