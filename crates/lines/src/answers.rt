@@ -93,7 +93,8 @@ fn say_entry<T: Text>(out: &mut T, separator: &str, e: Entry) -> Result<(), Allo
     out.append(spell_pair(e, &mut [0; PAIR]))
 }
 
-// `K=V`, put down from its end, so that an entry is copied once.
+// `K=V`, put down from its end, so that an entry is copied once. Digits and `=` are ASCII, which is proved where the bytes
+// are taken for text.
 fn spell_pair(e: Entry, text: &mut [u8; PAIR]) -> &str
     ensures { result.now ≡ decimal e.key ++ (codes "=" ++ decimal e.value) }
 {

@@ -41,6 +41,7 @@ fn tell(rt: &HostRuntime, runs: &Runs) -> anyhow::Result<()> {
         .line()
         .map_err(|_| anyhow!("no memory for the serial order"))?;
     let mut text = String::new(rt.alloc());
+    // Where there is no memory for the text, that is told as a formatting which failed.
     say_order(&mut text, &order).map_err(|_| fmt::Error)?;
     rt.stdout().write_all(text.as_bytes())?;
     Ok(())
